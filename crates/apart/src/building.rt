@@ -52,8 +52,12 @@ pub(crate) fn read(alloc: Global, keys: &[&str]) -> Result<Op, Fault> {
 
 /// What an operation came to, in words: of a read the value of each row, and `-` where it has none.
 pub(crate) fn words(alloc: Global, outcome: &Outcome) -> Result<String, Fault> {
-    let Outcome::Read { answer, .. } = outcome else {
-        return Ok(String::from_str(alloc, " written")?);
+    let answer = match outcome {
+        Outcome::Read { answer, .. } => answer,
+        Outcome::Moved { dc, .. } => return Ok(format!(in alloc; " moved to {dc}")?),
+        Outcome::Wrote { .. } | Outcome::Collected => {
+            return Ok(String::from_str(alloc, " written")?);
+        }
     };
     let mut text = String::new(alloc);
     for row in answer.as_slice() {

@@ -1,11 +1,12 @@
-//! Schedules: who asks what where, and what comes when. A step is `write DC KEY.. VALUE`, `read DC KEY..` or `mail FROM TO HOW`.
+//! Schedules: who asks what where, and what comes when. A step is `write DC KEY.. VALUE`, `read DC KEY..`, `move DC TO` or `mail FROM TO HOW`.
 use crate::building;
 use crate::mail::How;
 use crate::stores::Stores;
 use logical_time::Fault;
+use messages::Op;
 use std::alloc::Global;
 
-const SCHEDULES: [(&str, &str); 8] = [
+const SCHEDULES: [(&str, &str); 11] = [
     (
         "a write comes to the others",
         "write 0 r a; read 0 r; read 1 r; mail 0 1 forward; read 1 r; read 2 r; mail 0 2 forward; read 2 r",
@@ -38,7 +39,28 @@ const SCHEDULES: [(&str, &str); 8] = [
         "who is cut off for good reads and writes on",
         "write 0 r a; mail 0 1 never; mail 0 2 never; write 1 r b; read 1 r; write 2 r s c; read 2 r s; read 0 r",
     ),
+    (
+        "a move waits for what its session depends on, and is answered to who asks again",
+        "write 0 r a; move 0 1; move 0 1; read 0 r; mail 0 1 forward; mail 1 0 forward; mail 0 1 forward; mail 1 0 forward; move 0 1",
+    ),
+    (
+        "who asks for another thing once it has ended is served anew",
+        "move 0 1; read 0 r; mail 0 1 forward; mail 1 0 forward; read 0 r",
+    ),
+    (
+        "a session that moved is answered from there",
+        "write 1 r b; move 0 1; read 0 r; read 0 r; mail 0 1 forward; mail 1 0 forward; read 0 r",
+    ),
 ];
+
+// What a request came to, in words.
+fn ask(alloc: Global, stores: &mut Stores, dc: &str, op: Op) -> Result<String, Fault> {
+    match stores.ask(alloc, dc.parse().unwrap_or(0), op) {
+        Ok(outcome) => building::words(alloc, &outcome),
+        Err(Fault::Memory) => Err(Fault::Memory),
+        Err(fault) => Ok(format!(in alloc; " fault {fault}")?),
+    }
+}
 
 // What a step came to, in words.
 fn take(alloc: Global, stores: &mut Stores, step: &str) -> Result<String, Fault> {
@@ -49,13 +71,17 @@ fn take(alloc: Global, stores: &mut Stores, step: &str) -> Result<String, Fault>
     match words.as_slice() {
         ["write", dc, keys @ .., value] => {
             let op = building::write(alloc, keys, value)?;
-            let outcome = stores.ask(alloc, dc.parse().unwrap_or(0), op)?;
-            building::words(alloc, &outcome)
+            ask(alloc, stores, dc, op)
         }
         ["read", dc, keys @ ..] => {
             let op = building::read(alloc, keys)?;
-            let outcome = stores.ask(alloc, dc.parse().unwrap_or(0), op)?;
-            building::words(alloc, &outcome)
+            ask(alloc, stores, dc, op)
+        }
+        ["move", dc, to] => {
+            let op = Op::Move {
+                dc: to.parse().unwrap_or(0),
+            };
+            ask(alloc, stores, dc, op)
         }
         ["mail", from, to, how] => {
             let (from, to) = (from.parse().unwrap_or(0), to.parse().unwrap_or(0));

@@ -1,36 +1,47 @@
 //! The sites of three data centres, and the mail between them.
+ghost use Rattle.std.specs.Prelude.{◌<◌};
+
 use crate::building;
 use crate::mail::{How, Mail};
 use logical_time::{Fault, Node};
 use messages::{Op, Outcome, Topology};
 use parcels::{read_parcel, write_parcel};
-use site::{Site, Turn};
+use readiness::SharedPort;
+use site::Site;
+use site_port::SiteSessions;
 use std::alloc::Global;
 use threaded::Actor;
 
 // More turns than any schedule takes.
-const MANY: usize = 10_000;
+const MANY: u64 = 10_000;
 
 /// Three sites. They must be closed.
 pub(crate) struct Stores {
     topology: Topology,
-    sites: Vec<Site<Actor>>,
+    sites: Vec<SiteSessions<Actor>>,
     mail: Mail,
 }
 
 // Ends the sites.
-fn close_all(mut sites: Vec<Site<Actor>>) {
+fn close_all(mut sites: Vec<SiteSessions<Actor>>) {
     while let Some(site) = sites.pop() {
         site.close();
     }
     sites.destroy_empty();
 }
 
-fn open_all(alloc: Global, topology: &Topology) -> Result<Vec<Site<Actor>>, Fault> {
+// The site of a data centre that there is, to which nothing happened yet.
+fn open_site(alloc: Global, topology: &Topology, dc: u16) -> Result<SiteSessions<Actor>, Fault>
+    requires { dc < topology.now.dcs }
+{
+    SiteSessions::new(alloc, Site::new(alloc, topology, dc)?)
+}
+
+fn open_all(alloc: Global, topology: &Topology) -> Result<Vec<SiteSessions<Actor>>, Fault> {
     let count = topology.dcs();
     let mut sites = Vec::with_capacity(alloc, usize::from(count))?;
     for dc in 0..count {
-        match Site::new(alloc, topology, dc) {
+        match open_site(alloc, topology, dc) {
             Ok(site) => sites.push_reserved(site),
             Err(fault) => {
                 close_all(sites);
@@ -50,55 +61,33 @@ fn site_of(topology: &Topology, node: Node) -> u16 {
     }
 }
 
-// Turns until an operation ends.
-fn end_of(alloc: Global, site: &mut Site<Actor>) -> Result<Outcome, Fault> {
-    for _ in 0..MANY {
-        match site.turn(alloc)? {
-            Turn::Idle => return Err(Fault::Busy),
-            Turn::Handled => {}
-            Turn::Ended { outcome, .. } => return Ok(outcome),
-        }
-    }
-    Err(Fault::Busy)
-}
-
-// A session of the site asks, and waits for its answer.
-fn ask_site(alloc: Global, site: &mut Site<Actor>, node: Node, op: Op) -> Result<Outcome, Fault> {
-    if !site.has_session(node) {
-        return Err(Fault::UnknownHome);
-    }
-    match site.submit(alloc, node, op)?.ended {
-        Some((_, outcome)) => Ok(outcome),
-        None => end_of(alloc, site),
-    }
-}
-
 // Turns until nothing waits; then all that is to go is posted.
 fn settle(
     alloc: Global,
     topology: &Topology,
-    site: &mut Site<Actor>,
+    site: &mut SiteSessions<Actor>,
     mail: &mut Mail,
 ) -> Result<(), Fault> {
+    site.turn(MANY)?;
     for _ in 0..MANY {
-        if matches!(site.turn(alloc)?, Turn::Idle) {
-            break;
-        }
-    }
-    for _ in 0..MANY {
-        let Some(envelope) = site.give(alloc)? else {
+        let Some(envelope) = site.give()? else {
             break;
         };
         let bytes = write_parcel(alloc, &envelope)?;
-        mail.post(site.dc(), site_of(topology, envelope.to), bytes)?;
+        mail.post(site.site().dc(), site_of(topology, envelope.to), bytes)?;
     }
     Ok(())
 }
 
 // A parcel comes to a site.
-fn hear(alloc: Global, site: &mut Site<Actor>, from: u16, bytes: &[u8]) -> Result<(), Fault> {
+fn hear(
+    alloc: Global,
+    site: &mut SiteSessions<Actor>,
+    from: u16,
+    bytes: &[u8],
+) -> Result<(), Fault> {
     let envelope = read_parcel(alloc, bytes)?;
-    match site.hear(alloc, from, envelope) {
+    match site.hear(from, envelope) {
         Ok(()) => Ok(()),
         Err((fault, _)) => Err(fault),
     }
@@ -121,10 +110,9 @@ impl Stores {
         let Some(site) = self.sites.get_mut(usize::from(dc)) else {
             return Err(Fault::UnknownHome);
         };
-        let node = Node::new(self.topology.shard_count().saturating_add(dc));
-        let outcome = ask_site(alloc, site, node, op)?;
+        let answer = site.ask(0, op);
         settle(alloc, &self.topology, site, &mut self.mail)?;
-        Ok(outcome)
+        answer
     }
 
     /// What the site of one data centre sent to that of another comes there so.

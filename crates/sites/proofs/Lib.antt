@@ -2,3 +2,4 @@ pub mod Alone
 pub mod Fits
 pub mod Senders
 pub mod Stories
+pub mod Meant

@@ -16,6 +16,7 @@ ghost use Rattle.world.specs.declared.run_event.RunEvent.{RunEvent};
 ghost use Rattle.world.specs.Run.{run};
 ghost use Rattle.world.specs.Journals.{IsRunOf, ended_at};
 ghost use Rattle.site.specs.Story.{Story, is_here, journal, outcomes};
+ghost use Rattle.sites.specs.Answers.{AnswersAreMeant};
 ghost use Rattle.sites.specs.Sites.{IsSiteStory, HasStory, DoLive, DoMeet, journals_of, outcomes_of};
 
 /// Where what came to each site was given by the site of its sender, the journals of all sites fit together, and are those of a
@@ -55,4 +56,13 @@ pub fn one_site_is_right()
         → op_numbered (journal s node) number ≡ Some (op.Read read) → Contains (outcomes s node) (number, outcome.Read time answer)
         → IsPermutation h (history_by top journals (home_by top journals node number))
         → answer ≡ meaning read h time }
+{}
+
+/// What a site answered is meant: each operation of its sessions that ended is an entry of each run that has its journals, and means
+/// its request there (`alone`). Where what came to each site was given by the site of its sender, the journals of all sites are those
+/// of a run (`together`). Does nothing; its contract is the law.
+pub fn answers_of_sites()
+    ensures alone { (top : TopologyValue) (dc : ℕ) (s : Story) → IsSiteStory top dc s → AnswersAreMeant top dc s }
+    ensures together { (top : TopologyValue) (stories : ℕ → Story) → is_topology top.dcs top.shards top.homes ≡ true → DoLive top stories → DoMeet top stories
+        → (dc : ℕ) → dc < top.dcs → HasStory top dc (stories dc) (journals_of top stories) × IsThreadedRun top (journals_of top stories) }
 {}

@@ -6,4 +6,6 @@
 
 mod law;
 
-pub use law::{answers_are_meant, one_site_is_right, outcomes_are_told, sites_are_a_run};
+pub use law::{
+    answers_are_meant, answers_of_sites, one_site_is_right, outcomes_are_told, sites_are_a_run,
+};

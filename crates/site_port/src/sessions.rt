@@ -1,0 +1,238 @@
+//! The sessions of a site, each for the connection at a place.
+ghost use Rattle.std.specs.Prelude.{◌≡◌, ◌⊎◌, ◌<◌, ◌++◌, ◌∷◌, [], ℕ, List, All, true, false, Some, None, Ok, IfOk, OnOk, IfErr, OnErr, IfSome, length, slice_get};
+ghost use Rattle.messages.specs.Topology.{is_topology};
+ghost use Rattle.site.specs.Story.{Happening, Heard, may_come};
+ghost use Rattle.site.specs.Turns.{goes_on, HasGiven};
+ghost use Rattle.site_port.specs.Ends.{GoesOnWith, HasTurns, HasStopped};
+ghost use Rattle.site_port.specs.Port.{sessions_of, is_batch as writes, Asks, IsItsEnd, IsDoing};
+
+use crate::asking::{Begun, ask};
+use crate::recalling::take_end;
+use crate::turns::take_turns;
+use crate::waiting::{Late, Waiting};
+use actors::Machine;
+use equality::same_op;
+use logical_time::{Fault, Node};
+use messages::{Envelope, Op, Outcome, Topology};
+use readiness::SharedPort;
+use site::Site;
+use std::alloc::Global;
+use std::marker::Model;
+
+/// The site of a data centre, whose sessions answer the connections at places: that at a place asks as the session of its index
+/// among those that are here. The next connection at a place goes on with what that session did before. It must be closed.
+pub struct SiteSessions<M: Machine> {
+    alloc: Global,
+    site: Site<M>,
+    sessions: Vec<Node>,
+    waiting: Vec<Option<Waiting>>,
+    late: Vec<Late>,
+    behind: bool,
+}
+
+impl<M: Machine> Model for SiteSessions<M> {
+    ghost use Rattle.site_port.specs.Port.{PortValue, Holds};
+
+    ghost Value = { PortValue };
+
+    ghost view = { λ p. record { site = p.site; waiting = p.waiting.items; late = p.late.items; behind = p.behind } };
+
+    ghost invariant = { λ p. Holds p.site p.sessions.items p.waiting.items p.late.items };
+}
+
+// Whether it writes.
+fn is_batch(op: &Op) -> bool
+    ensures { result ≡ writes op.now }
+{
+    matches!(op, Op::Batch(_))
+}
+
+// The sessions that are here, in the order of their nodes.
+fn sessions_here<M: Machine>(alloc: Global, site: &Site<M>) -> Result<Vec<Node>, Fault>
+    ensures made { IfOk result (λ list. list.items ≡ sessions_of site.now.top site.now.dc) }
+    ensures memory { IfErr result (λ e. e ≡ Fault.Memory) }
+{
+    let topology = site.topology();
+    let mut here = Vec::new(alloc);
+    for index in 0..topology.homes().len() {
+        let node = topology.session_node(index as u16);
+        if site.has_session(node) {
+            here.push(node)?;
+        }
+    }
+    Ok(here)
+}
+
+// So many places where nothing is open.
+fn free_places(alloc: Global, count: usize) -> Result<Vec<Option<Waiting>>, Fault>
+    ensures made { IfOk result (λ waiting. (length waiting.items ≡ count) × All (λ w. w ≡ None) waiting.items) }
+    ensures memory { IfErr result (λ e. e ≡ Fault.Memory) }
+{
+    let mut waiting = Vec::new(alloc);
+    for _place in 0..count {
+        waiting.push(None)?;
+    }
+    Ok(waiting)
+}
+
+impl<M: Machine> SiteSessions<M> {
+    /// The port of this site, before its first event. Refused with `Memory`; then the site is closed.
+    pub fn new(alloc: Global, site: Site<M>) -> Result<SiteSessions<M>, Fault>
+        requires { site.story ≡ [] }
+        ensures made { IfOk result (λ p. (p.site ≡ site) × (p.late ≡ []) × (p.behind ≡ false) × All (λ w. w ≡ None) p.waiting) }
+        ensures places { IfOk result (λ p. length p.waiting ≡ length (sessions_of site.top site.dc)) }
+        ensures memory { IfErr result (λ e. e ≡ Fault.Memory) }
+    {
+        let sessions = match sessions_here(alloc, &site) {
+            Ok(sessions) => sessions,
+            Err(fault) => {
+                site.close();
+                return Err(fault);
+            }
+        };
+        match free_places(alloc, sessions.len()) {
+            Ok(waiting) => Ok(SiteSessions {
+                alloc,
+                site,
+                sessions,
+                waiting,
+                late: Vec::new(alloc),
+                behind: false,
+            }),
+            Err(fault) => {
+                site.close();
+                Err(fault)
+            }
+        }
+    }
+
+    /// How many places there are: one for each session that is here.
+    pub fn places(&self) -> usize
+        ensures { result ≡ length self.now.waiting }
+    {
+        self.waiting.len()
+    }
+
+    /// From now on batches are refused with `Behind`, or no longer.
+    pub fn refuse_batches(&mut self, behind: bool)
+        ensures { self.new ≡ record self.old { behind = behind } }
+    {
+        self.behind = behind;
+    }
+
+    /// Takes so many turns of the site at most, until nothing waits. Costs what they do. Refused as a turn is.
+    pub fn turn(&mut self, most: u64) -> Result<(), Fault>
+        ensures took { OnOk result (HasTurns None most self.old.site self.old.late None self.new.site self.new.late) }
+        ensures sound { OnOk result (self.old.site.sound ≡ true → self.new.site.sound ≡ true) }
+        ensures stopped { IfErr result (λ e. HasStopped M.refuses None self.old.site self.old.late e self.new.site self.new.late) }
+        ensures stays { (self.new.waiting ≡ self.old.waiting) × (self.new.behind ≡ self.old.behind) }
+    {
+        let _none = take_turns(self.alloc, &mut self.site, &mut self.late, &None, most)?;
+        Ok(())
+    }
+
+    /// An envelope comes from the site of another data centre, as `Site::hear` says.
+    pub fn hear(&mut self, from: u16, envelope: Envelope) -> Result<(), (Fault, Envelope)>
+        ensures heard { OnOk result (self.new ≡ record self.old { site = goes_on self.old.site (Heard from envelope) }) }
+        ensures allowed { OnOk result ((self.old.site.sound ≡ true) × (may_come self.old.site.top self.old.site.dc from envelope ≡ true)) }
+        ensures same { OnErr result (self.new ≡ self.old) }
+        ensures fault { IfErr result (λ e. (e.0 ≡ Fault.Memory) ⊎ ((e.0 ≡ Fault.StrangerEnd) × ((self.old.site.sound ≡ false) ⊎ (may_come self.old.site.top self.old.site.dc from envelope ≡ false)))) }
+        ensures back { IfErr result (λ e. e.1 ≡ envelope) }
+    {
+        self.site.hear(self.alloc, from, envelope)
+    }
+
+    /// The next envelope that is to go to another site, as `Site::give` says.
+    pub fn give(&mut self) -> Result<Option<Envelope>, Fault>
+        ensures given { IfOk result (λ e. HasGiven self.old.site e self.new.site) }
+        ensures sound { OnOk result (self.old.site.sound ≡ true) }
+        ensures stays { self.new ≡ record self.old { site = self.new.site } }
+        ensures same { OnErr result (self.new ≡ self.old) }
+        ensures fault { IfErr result (λ e. (e ≡ Fault.Memory) ⊎ ((e ≡ Fault.StrangerEnd) × (self.old.site.sound ≡ false))) }
+    {
+        self.site.give(self.alloc)
+    }
+
+    // A request of the session at a place where nothing is open.
+    fn ask_anew(&mut self, place: usize, node: Node, op: Op) -> Result<Outcome, Fault>
+        requires session { slice_get (sessions_of self.old.site.top self.old.site.dc) place ≡ Some node }
+        requires free { slice_get self.old.waiting place ≡ Some None }
+        ensures asks { Asks M.refuses place node self.old op result self.new }
+        ensures ends { IsItsEnd place self.new op result }
+        ensures on { (happened : List Happening) × All IsDoing happened × GoesOnWith self.old.site happened self.new.site }
+    {
+        if self.behind && is_batch(&op) {
+            return Err(Fault::Behind);
+        }
+        let Begun { told, waiting } = ask(self.alloc, &mut self.site, &mut self.late, node, op)?;
+        let fault = match told {
+            Ok(Some(outcome)) => return Ok(outcome),
+            Ok(None) => Fault::Busy,
+            Err(fault) => fault,
+        };
+        self.waiting[place] = Some(waiting);
+        Err(fault)
+    }
+
+    /// The site.
+    pub fn site(&self) -> &Site<M>
+        ensures { result.now ≡ self.now.site }
+    {
+        &self.site
+    }
+
+    /// Ends the site, and gives up what isn't finished.
+    pub fn close(self) {
+        let SiteSessions {
+            alloc: _,
+            site,
+            sessions: _,
+            waiting: _,
+            late: _,
+            behind: _,
+        } = self;
+        site.close();
+    }
+}
+
+impl<M: Machine> SharedPort for SiteSessions<M> {
+    ghost use Rattle.site_port.specs.Port.{PortValue, IsStep};
+
+    ghost State = { PortValue };
+
+    ghost seen = { λ p. p };
+
+    ghost steps = { IsStep M.refuses };
+
+    ghost Kept = { Unit {0} };
+
+    ghost kept = { λ p. tt };
+
+    ghost settles = { λ p went q. (went ≡ Ok tt) × (q ≡ p) };
+
+    fn ask(&mut self, place: usize, op: Op) -> Result<Outcome, Fault> {
+        if place >= self.sessions.len() {
+            return Err(Fault::Busy);
+        }
+        if !self.site.is_sound() {
+            return Err(Fault::StrangerEnd);
+        }
+        let node = self.sessions[place];
+        let Some(waiting) = self.waiting[place].take() else {
+            return self.ask_anew(place, node, op);
+        };
+        let Some(outcome) = take_end(&mut self.late, node, waiting.number) else {
+            self.waiting[place] = Some(waiting);
+            return Err(Fault::Busy);
+        };
+        if same_op(&waiting.op, &op) {
+            return Ok(outcome);
+        }
+        self.ask_anew(place, node, op)
+    }
+
+    /// It keeps nothing for good.
+    fn settle(&mut self) -> Result<(), Fault> {
+        Ok(())
+    }
+}
