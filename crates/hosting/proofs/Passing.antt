@@ -1,0 +1,167 @@
+-- What passes between requests, one thing after the other.
+use Rattle.std.proofs.Common.{◌≡◌, ◌∙◌, ℕ, Bool, true, false, List, [], ◌∷◌, ◌++◌, Option, Some, None, ◌⊎◌, inl, inr, refl, sym, ap, subst, append_assoc, append-nil}
+use Rattle.std.specs.Prelude.{All, filter, filter_map, get_or}
+use Rattle.std.proofs.lemmas.List.Elements.{All-nil, All-cons, All-head, All-tail, All-append, filter_map-append, filter-append}
+use Rattle.logical_time.specs.declared.fault.Fault.{Fault}
+use Rattle.logical_time.specs.declared.fault.Fault.TheVariants.{Memory, StrangerEnd}
+use Rattle.messages.specs.declared.envelope.Envelope.{Envelope}
+use Rattle.messages.specs.Topology.{TopologyValue}
+use Rattle.site.specs.Story.{Happening, Did, Heard, Given, site_of, may_come}
+use Rattle.site.specs.Sites.{SiteValue}
+use Rattle.site.specs.Turns.{goes_on, HasGiven}
+use Rattle.site_port.specs.Ends.{ends_in, IsHandling, HasTurns}
+use Rattle.site_port.specs.Port.{PortValue}
+use Rattle.site_port.proofs.Turning.{goes_same, goes_then, ends_then}
+use Rattle.ways.specs.Crossings.{Crossing, Sent, Came, Refused, Nothing, Crosses, sent_by, brought_by}
+use Rattle.hosting.specs.Rounds.{IsPassing, gift, receipt, Passes, Matches, HasPassed}
+
+-- ## Nothing, and one after the other
+
+pub passes_same : (p : PortValue) → Passes p [] p
+passes_same p = record { went = goes_same p.site; passing = All-nil IsPassing; waiting = refl; late = sym (append-nil p.late); behind = refl }
+
+pub passes_then : (p q r : PortValue) (xs ys : List Happening) → Passes p xs q → Passes q ys r → Passes p (xs ++ ys) r
+passes_then p q r xs ys f g =
+    record {
+      went = goes_then p.site q.site r.site xs ys f.went g.went;
+      passing = All-append IsPassing xs ys f.passing g.passing;
+      waiting = g.waiting ∙ f.waiting;
+      late = g.late ∙ (ap (λ l. l ++ ends_in ys) f.late ∙ (append_assoc p.late (ends_in xs) (ends_in ys) ∙ ap (λ l. p.late ++ l) (sym (ends_then xs ys))));
+      behind = g.behind ∙ f.behind;
+    }
+
+crosses_then : {W : Type 0} (steps : W → Crossing → W → Type 0) (a b c : W) (xs ys : List Crossing) → Crosses steps a xs b → Crosses steps b ys c → Crosses steps a (xs ++ ys) c
+crosses_then steps a b c [] ys f g = subst (λ z. Crosses steps z ys c) (sym f) g
+crosses_then steps a b c (x ∷ xs) ys (u, step, rest) g = (u, step, crosses_then steps u b c xs ys rest g)
+
+abbrev may : TopologyValue → ℕ → (ℕ × Envelope) → Bool
+may top dc r = may_come top dc r.0 r.1
+
+matches_then : (top : TopologyValue) (dc : ℕ) (xs ys : List Happening) (cs ds : List Crossing) → Matches top dc xs cs → Matches top dc ys ds → Matches top dc (xs ++ ys) (cs ++ ds)
+matches_then top dc xs ys cs ds f g =
+    record {
+      gifts = filter_map-append (gift top) xs ys ∙ (ap (λ l. l ++ filter_map (gift top) ys) f.gifts ∙ (ap (λ l. filter_map sent_by cs ++ l) g.gifts ∙ sym (filter_map-append sent_by cs ds)));
+      receipts = filter_map-append receipt xs ys
+          ∙ (ap (λ l. l ++ filter_map receipt ys) f.receipts
+          ∙ (ap (λ l. filter (λ (r : ℕ × Envelope). may_come top dc r.0 r.1) (filter_map brought_by cs) ++ l) g.receipts
+          ∙ (sym (filter-append (λ (r : ℕ × Envelope). may_come top dc r.0 r.1) (filter_map brought_by cs) (filter_map brought_by ds))
+          ∙ ap (filter (λ (r : ℕ × Envelope). may_come top dc r.0 r.1)) (sym (filter_map-append brought_by cs ds)))));
+    }
+
+module _ {W : Type 0} (steps : W → Crossing → W → Type 0) where
+  pub passed_none : (p : PortValue) (w : W) → HasPassed steps p w p w
+  passed_none p w = record { happened = []; crossed = []; passed = passes_same p; crosses = refl; matches = record { gifts = refl; receipts = refl } }
+
+  pub passed_then : (p q r : PortValue) (u v w : W) → HasPassed steps p u q v → HasPassed steps q v r w → HasPassed steps p u r w
+  passed_then p q r u v w f g =
+      let there : Matches p.site.top p.site.dc g.happened g.crossed =
+      (subst (λ d. Matches p.site.top d g.happened g.crossed) f.passed.went.dc (subst (λ t. Matches t q.site.dc g.happened g.crossed) f.passed.went.topology g.matches)) in
+      record {
+        happened = f.happened ++ g.happened;
+        crossed = f.crossed ++ g.crossed;
+        passed = passes_then p q r f.happened g.happened f.passed g.passed;
+        crosses = crosses_then steps u v w f.crossed g.crossed f.crosses g.crosses;
+        matches = matches_then p.site.top p.site.dc f.happened g.happened f.crossed g.crossed f.matches there;
+      }
+
+  -- the ways did nothing but reading and writing
+  pub passed_exchange : (p : PortValue) (u w : W) → steps u Nothing w → HasPassed steps p u p w
+  passed_exchange p u w step = record { happened = []; crossed = Nothing ∷ []; passed = passes_same p; crosses = (w, step, refl); matches = record { gifts = refl; receipts = refl } }
+
+-- ## Turns
+
+handling_passes : (h : Happening) → IsHandling h → IsPassing h
+handling_passes (Did node x sends ended) is = is
+handling_passes (Heard from e) is = absurd is
+handling_passes (Given e) is = absurd is
+
+all_pass : (hs : List Happening) → All IsHandling hs → All IsPassing hs
+all_pass hs all = λ k d lt. handling_passes (get_or hs k d) (all k d lt)
+
+none_given : (top : TopologyValue) (h : Happening) → IsHandling h → gift top h ≡ None
+none_given top (Did node x sends ended) is = refl
+none_given top (Heard from e) is = absurd is
+none_given top (Given e) is = absurd is
+
+none_heard : (h : Happening) → IsHandling h → receipt h ≡ None
+none_heard (Did node x sends ended) is = refl
+none_heard (Heard from e) is = absurd is
+none_heard (Given e) is = absurd is
+
+skips : {X Y : Type 0} (f : X → Option Y) (x : X) (xs : List X) → f x ≡ None → filter_map f xs ≡ [] → filter_map f (x ∷ xs) ≡ []
+skips f x xs none rest = rw none rest
+
+no_gifts : (top : TopologyValue) (hs : List Happening) → All IsHandling hs → filter_map (gift top) hs ≡ []
+no_gifts top [] all = refl
+no_gifts top (h ∷ hs) all = skips (gift top) h hs (none_given top h (All-head IsHandling h hs all)) (no_gifts top hs (All-tail IsHandling h hs all))
+
+no_receipts : (hs : List Happening) → All IsHandling hs → filter_map receipt hs ≡ []
+no_receipts [] all = refl
+no_receipts (h ∷ hs) all = skips receipt h hs (none_heard h (All-head IsHandling h hs all)) (no_receipts hs (All-tail IsHandling h hs all))
+
+module _ {W : Type 0} (steps : W → Crossing → W → Type 0) (p q : PortValue) (w : W) where
+  -- turns of the site, none of which was refused
+  pub passed_turns : (most : ℕ) → HasTurns None most p.site p.late None q.site q.late → q.waiting ≡ p.waiting → q.behind ≡ p.behind → HasPassed steps p w q w
+  passed_turns most t waiting behind =
+      record {
+        happened = t.happened;
+        crossed = [];
+        passed = record { went = t.went; passing = all_pass t.happened t.handled; waiting = waiting; late = t.is_told.0; behind = behind };
+        crosses = refl;
+        matches = record { gifts = no_gifts p.site.top t.happened t.handled; receipts = no_receipts t.happened t.handled };
+      }
+
+  -- an envelope was given, and the ways took it for the site of the actor for which it is
+  pub passed_gift : (v : W) (to : ℕ) (e : Envelope) → HasGiven p.site (Some e) q.site → q ≡ record p { site = q.site } → to ≡ site_of p.site.top e.to → steps w (Sent to e) v → HasPassed steps p w q v
+  passed_gift v to e g stays there step =
+      record {
+        happened = Given e ∷ [];
+        crossed = Sent to e ∷ [];
+        passed = record {
+          went = record { topology = ap (λ (s : SiteValue). s.top) g.2; dc = ap (λ (s : SiteValue). s.dc) g.2; story = ap (λ (s : SiteValue). s.story) g.2; sound = λ z. sym (ap (λ (s : SiteValue). s.sound) g.2) ∙ z };
+          passing = All-cons IsPassing (Given e) [] tt (All-nil IsPassing);
+          waiting = ap (λ (z : PortValue). z.waiting) stays;
+          late = ap (λ (z : PortValue). z.late) stays ∙ sym (append-nil p.late);
+          behind = ap (λ (z : PortValue). z.behind) stays;
+        };
+        crosses = (v, step, refl);
+        matches = record { gifts = ap (λ d. (d, e) ∷ []) (sym there); receipts = refl };
+      }
+
+  -- one that came was heard
+  pub passed_receipt : (v : W) (from : ℕ) (e : Envelope) → q ≡ record p { site = goes_on p.site (Heard from e) } → may_come p.site.top p.site.dc from e ≡ true → steps w (Came from e) v → HasPassed steps p w q v
+  passed_receipt v from e is allowed step =
+      record {
+        happened = Heard from e ∷ [];
+        crossed = Came from e ∷ [];
+        passed = record {
+          went = record { topology = ap (λ (z : PortValue). z.site.top) is; dc = ap (λ (z : PortValue). z.site.dc) is; story = ap (λ (z : PortValue). z.site.story) is; sound = λ z. sym (ap (λ (y : PortValue). y.site.sound) is) ∙ z };
+          passing = All-cons IsPassing (Heard from e) [] tt (All-nil IsPassing);
+          waiting = ap (λ (z : PortValue). z.waiting) is;
+          late = ap (λ (z : PortValue). z.late) is ∙ sym (append-nil p.late);
+          behind = ap (λ (z : PortValue). z.behind) is;
+        };
+        crosses = (v, step, refl);
+        matches = record { gifts = refl; receipts = rw allowed refl };
+      }
+
+  -- one that came and may not come from there was refused
+  pub passed_refusal : (u v : W) (from : ℕ) (e : Envelope) → q ≡ p → may_come p.site.top p.site.dc from e ≡ false → steps w (Came from e) u → steps u (Refused from) v → HasPassed steps p w q v
+  passed_refusal u v from e same stranger came refused =
+      subst (λ z. HasPassed steps p w z v) (sym same)
+      (record {
+        happened = [];
+        crossed = Came from e ∷ Refused from ∷ [];
+        passed = passes_same p;
+        crosses = (u, came, (v, refused, refl));
+        matches = record { gifts = refl; receipts = rw stranger refl };
+      })
+
+-- what is refused by a sound site, and not for memory, may not come from there
+pub may_not_come : (sound may : Bool) (fault : Fault) → (fault ≡ Memory) ⊎ ((fault ≡ StrangerEnd) × ((sound ≡ false) ⊎ (may ≡ false))) → (fault ≡ Memory → ⊥) → sound ≡ true → may ≡ false
+may_not_come sound may fault (inl memory) other good = absurd (other memory)
+may_not_come sound may fault (inr (stranger, inl bad)) other good = absurd (true_false (sym good ∙ bad))
+  where
+    true_false : true ≡ false → ⊥
+    true_false q = cc
+may_not_come sound may fault (inr (stranger, inr not)) other good = not

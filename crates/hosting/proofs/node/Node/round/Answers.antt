@@ -1,0 +1,12 @@
+use Rattle.std.proofs.Common.{◌∙◌, ap, subst}
+use Rattle.site.specs.Sites.{SiteValue}
+use Rattle.sites.specs.Sites.{IsSiteStory}
+use Rattle.hosting.proofs.node.Node.round.Goals as goal
+
+pub returns-clause-meant : goal.returns-clause-meant
+returns-clause-meant g c = λ sound.
+    let here = c.site.ensures in
+    let told = c.is_sound-sound.ensures in
+    let all : IsSiteStory c.site.result.now.top c.site.result.now.dc c.site.result.now.story = (told.story, told.sound (told.value ∙ (ap (λ (s : SiteValue). s.sound) here ∙ sound))) in
+    let moved = subst (λ (s : SiteValue). IsSiteStory s.top s.dc s.story) here all in
+    c.answers_of_sites.ensures.alone c.go_round-went.new.port.site.top c.go_round-went.new.port.site.dc c.go_round-went.new.port.site.story moved

@@ -1,0 +1,64 @@
+-- What a round makes of a node.
+use Rattle.std.specs.Prelude.{◌≡◌, ℕ, Bool, List, ◌++◌, All, filter, filter_map, Option, Some, None}
+use Rattle.messages.specs.declared.envelope.Envelope.{Envelope}
+use Rattle.messages.specs.Topology.{TopologyValue}
+use Rattle.readiness.specs.Lines.{ReadyValue}
+use Rattle.doors.specs.declared.listening.Doors.{Doors}
+use Rattle.doors.specs.Spans.{Spans}
+use Rattle.site.specs.Story.{Happening, Did, Heard, Given, site_of, may_come}
+use Rattle.site_port.specs.Ends.{ends_in, IsHandling, GoesOnWith}
+use Rattle.site_port.specs.Port.{PortValue, IsStep}
+use Rattle.threaded.specs.Machines.{Refuses}
+use Rattle.ways.specs.Crossings.{Crossing, Crosses, sent_by, brought_by}
+
+-- ## Between requests
+
+-- an actor of the site handled an envelope, one came from another site, or one was given to the way to another
+abbrev pub IsPassing : Happening → Type 0
+IsPassing (Did node x sends ended) = IsHandling (Did node x sends ended)
+IsPassing (Heard from e) = Unit {0}
+IsPassing (Given e) = Unit {0}
+
+-- what was given, with the data centre of the site for whose actor it is
+abbrev pub gift : TopologyValue → Happening → Option (ℕ × Envelope)
+gift top (Did node x sends ended) = None
+gift top (Heard from e) = None
+gift top (Given e) = Some (site_of top e.to, e)
+
+-- what was heard, with the data centre from which it came
+abbrev pub receipt : Happening → Option (ℕ × Envelope)
+receipt (Did node x sends ended) = None
+receipt (Heard from e) = Some (from, e)
+receipt (Given e) = None
+
+-- No session was asked: the site's story went on with what passed, and all that ended meanwhile is kept.
+pub record Passes (old : PortValue) (happened : List Happening) (new : PortValue) : Type 0 where
+  pub went : GoesOnWith old.site happened new.site
+  pub passing : All IsPassing happened
+  pub waiting : new.waiting ≡ old.waiting
+  pub late : new.late ≡ old.late ++ ends_in happened
+  pub behind : new.behind ≡ old.behind
+
+-- What the ways took is what was given meanwhile, each for the site of the actor for which it is, in order; and what was heard is what they
+-- brought and may come from there, in order.
+pub record Matches (top : TopologyValue) (dc : ℕ) (happened : List Happening) (crossed : List Crossing) : Type 0 where
+  pub gifts : filter_map (gift top) happened ≡ filter_map sent_by crossed
+  pub receipts : filter_map receipt happened ≡ filter (λ (r : ℕ × Envelope). may_come top dc r.0 r.1) (filter_map brought_by crossed)
+
+-- The site passed on, and what crossed is what it gave and heard.
+pub record HasPassed {W : Type 0} (steps : W → Crossing → W → Type 0) (port : PortValue) (ways : W) (port_then : PortValue) (ways_then : W) : Type 0 where
+  pub happened : List Happening
+  pub crossed : List Crossing
+  pub passed : Passes port happened port_then
+  pub crosses : Crosses steps ways crossed ways_then
+  pub matches : Matches port.site.top port.site.dc happened crossed
+
+-- ## A round
+
+-- The site passed on to where requests were answered, and nothing else happened after. The lines of those who came are told what their
+-- sessions answered. Batches are refused exactly where too much waits for another site.
+pub record HasRounded {L : Type 0} {D : Type 0} {W : Type 0} (steps : W → Crossing → W → Type 0) (is_behind : W → Bool) (seen : L → ReadyValue) (gives : D → Option L → D → Type 0)
+    (doors : Doors L D) (port : PortValue) (ways : W) (doors_then : Doors L D) (port_then : PortValue) (ways_then : W) : Type 0 where
+  pub before : PortValue
+  pub passed : HasPassed steps port ways before ways_then
+  pub asked : Spans seen (IsStep Refuses) gives doors.idle doors.door doors.hall.places.places.items (record before { behind = is_behind ways_then }) doors_then.door doors_then.hall.places.places.items port_then

@@ -1,0 +1,87 @@
+//! What goes to other sites, and what comes from them.
+ghost use Rattle.std.specs.Prelude.{◌≡◌, OnOk};
+ghost use Rattle.site.specs.Story.{site_of as site_of_node};
+ghost use Rattle.hosting.specs.Rounds.{HasPassed};
+
+use actors::Machine;
+use logical_time::{Fault, Node};
+use messages::Topology;
+use site_port::SiteSessions;
+use ways::Ways;
+
+/// How many envelopes cross in a round at most, each way.
+const MOST: u64 = 65_536;
+
+// The data centre whose site keeps the actor with a node.
+fn site_of(topology: &Topology, node: Node) -> u16
+    ensures { result ≡ site_of_node topology.now node }
+{
+    if topology.is_shard(node) {
+        topology.dc_of(node)
+    } else {
+        topology.home_of(node).unwrap_or(0)
+    }
+}
+
+// Gives the next envelope that is to go to the way to its site. Gives whether there was one.
+fn send_one<M: Machine, W: Ways>(port: &mut SiteSessions<M>, ways: &mut W) -> Result<bool, Fault>
+    ensures sent { OnOk result (HasPassed W.steps port.old ways.old port.new ways.new) }
+{
+    let Some(envelope) = port.give()? else {
+        return Ok(false);
+    };
+    let to = site_of(port.site().topology(), envelope.to);
+    ways.send(to, &envelope)?;
+    Ok(true)
+}
+
+/// Gives what is to go to the ways to other sites, up to 65,536 envelopes. Refused as the site and the ways refuse it; then one that was given may be
+/// lost, and the node should be ended.
+pub(crate) fn send_all<M: Machine, W: Ways>(
+    port: &mut SiteSessions<M>,
+    ways: &mut W,
+) -> Result<(), Fault>
+    ensures sent { OnOk result (HasPassed W.steps port.old ways.old port.new ways.new) }
+{
+    for _sent in 0..MOST {
+        if !send_one(port, ways)? {
+            return Ok(());
+        }
+    }
+    Ok(())
+}
+
+// Has the site hear the next envelope that came. Gives whether there was one.
+fn hear_one<M: Machine, W: Ways>(port: &mut SiteSessions<M>, ways: &mut W) -> Result<bool, Fault>
+    ensures heard { OnOk result (HasPassed W.steps port.old ways.old port.new ways.new) }
+{
+    let Some((from, envelope)) = ways.next()? else {
+        return Ok(false);
+    };
+    match port.hear(from, envelope) {
+        Ok(()) => Ok(true),
+        Err((fault, _envelope)) => {
+            if fault == Fault::Memory || !port.site().is_sound() {
+                return Err(fault);
+            }
+            ways.refuse(from);
+            Ok(true)
+        }
+    }
+}
+
+/// Has the site hear what came, up to 65,536 envelopes. Refused as the ways refuse it, and with `Memory`; then one that came may be lost, and the node should
+/// be ended.
+pub(crate) fn hear_all<M: Machine, W: Ways>(
+    port: &mut SiteSessions<M>,
+    ways: &mut W,
+) -> Result<(), Fault>
+    ensures heard { OnOk result (HasPassed W.steps port.old ways.old port.new ways.new) }
+{
+    for _heard in 0..MOST {
+        if !hear_one(port, ways)? {
+            return Ok(());
+        }
+    }
+    Ok(())
+}

@@ -1,0 +1,9 @@
+//! A node: doors by which clients come, the site of one data centre, and the ways to the others.
+//!
+//! `specs/Rounds.antt` says what a round makes of them.
+#![tactic(auto)]
+
+mod crossing;
+mod node;
+
+pub use node::Node;
