@@ -14,4 +14,3 @@ pub mod Built
 pub mod Clocks
 pub mod Showing
 pub mod Turning
-pub mod Passing

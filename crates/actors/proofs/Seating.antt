@@ -2,7 +2,6 @@
 use Rattle.std.proofs.Common.{◌≡◌, ℕ, zero, suc, ◌<◌, ◌==◌, Bool, inl, inr, List, [], ◌∷◌, ◌++◌, length, Option, Some, None, refl, sym, subst, ◌∙◌, arith}
 use Rattle.std.specs.Prelude.{All, Contains, IfSome, IsSome, filter_map, Result, Ok, Err, OnOk, OnErr}
 use Rattle.std.specs.List.{slice_get}
-use mathlib.Core.Path.{fun_ext}
 use Rattle.std.proofs.lemmas.List.{append-nil}
 use Rattle.std.proofs.lemmas.List.Elements.{filter_map-append, filter-append, Contains-append_cases}
 use Rattle.messages.specs.declared.envelope.Envelope.{Envelope}
@@ -12,10 +11,9 @@ use Rattle.messages.specs.declared.event.ActorEvent.TheVariants.{Submit, Handle,
 use Rattle.messages.specs.Actors.{envelope_of}
 use Rattle.messages.specs.Topology.{TopologyValue}
 use Rattle.links.specs.Links.{InLinkValue}
-use Rattle.actors.specs.Journals.{IsOwn, IsBeginning, receipts_from, followed_by}
+use Rattle.actors.specs.Journals.{submissions, IsOwn, IsBeginning, receipts_from, followed_by}
 use Rattle.actors.specs.Turns.{HasDone, HasSameRings}
 use Rattle.actors.specs.CameFrom.{CameFrom}
-use Rattle.actors.specs.Shown.{IsShown}
 use Rattle.actors.specs.Machines.{IsRecorded}
 use Rattle.actors.specs.Seats.{SeatValue, through, sources_of, Received, CameBy, Keeps}
 use Rattle.actors.specs.Looking.{IsFoundInTurn}
@@ -154,12 +152,18 @@ module _ {M : Type 0} (came_from : CameFrom M) (untaken : M → Option (ℕ × O
       → ((n : ℕ) → followed_by after rest n ≡ followed_by before outbox n)
       → IsRecorded came_from untaken top node after machine journal outcomes rest count clock timed
   recorded_moved top node before after machine journal outcomes outbox rest count clock timed was same = record {
-    came = subst (λ (sent : ℕ → List Envelope). came_from top node journal sent outcomes machine) (sym (fun_ext same)) was.came;
-    taken = was.taken;
-    accepted = was.accepted;
-    clocked = was.clocked;
-    shown = subst (λ (sent : ℕ → List Envelope). IsShown came_from top node journal sent timed) (sym (fun_ext same)) was.shown;
+    sent = was.sent;
+    goes = λ n. was.goes n ∙ sym (same n);
+    past = was.past;
   }
+
+  -- the count is kept, whether an event was done or not
+  pub accepted_so : {A B : Type 0} (r : Result A B) (top : TopologyValue) (node : ℕ) (before : ℕ → List Envelope) (machine : M) (journal : List ActorEvent) (outcomes : List (ℕ × Outcome)) (outbox : List Envelope) (count clock : ℕ) (timed : Bool)
+      → OnOk r (IsRecorded came_from untaken top node before machine journal outcomes outbox count clock timed)
+      → OnErr r (IsRecorded came_from untaken top node before machine journal outcomes outbox count clock timed)
+      → count ≡ submissions journal
+  accepted_so (Ok a) top node before machine journal outcomes outbox count clock timed done undone = done.past.accepted
+  accepted_so (Err b) top node before machine journal outcomes outbox count clock timed done undone = undone.past.accepted
 
 pub has_done : {A B : Type 0} (r : Result A B) (d n : SeatValue) (event : ActorEvent)
     → OnOk r (length d.journal < d.limit) → OnOk r (n.journal ≡ d.journal ++ event ∷ []) → OnOk r (IsBeginning d.outcomes n.outcomes) → n.refusals ≡ d.refusals → n.topology ≡ d.topology → n.node ≡ d.node → n.limit ≡ d.limit → HasSameRings d n

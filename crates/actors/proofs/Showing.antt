@@ -3,9 +3,7 @@ use Rattle.std.proofs.Common.{◌≡◌, ◌∙◌, ℕ, zero, suc, ◌+◌, ◌
 use Rattle.std.specs.Prelude.{◌&&◌, ◌==◌, ◌≢◌, min, slice_get, ◌⊎◌}
 use Rattle.std.specs.List.{list_all}
 use Rattle.std.specs.Option.{unwrap_or}
-use mathlib.Core.Path.{fun_ext}
 use Rattle.std.proofs.lemmas.List.{length-append, take_all, take-append-le}
-use Rattle.std.proofs.lemmas.List.Elements.{filter-append}
 use Rattle.std.proofs.lemmas.Option.{slice_get_past, slice_get_within}
 use Rattle.std.proofs.lemmas.Bool.Decides.{leb_tells, eqb_tells}
 use Rattle.messages.specs.declared.envelope.Envelope.{Envelope}
@@ -13,7 +11,6 @@ use Rattle.messages.specs.declared.outcome.Outcome.{Outcome}
 use Rattle.messages.specs.declared.event.ActorEvent.{ActorEvent}
 use Rattle.messages.specs.Topology.{TopologyValue}
 use Rattle.actors.specs.CameFrom.{CameFrom}
-use Rattle.actors.specs.Journals.{sends_to}
 use Rattle.actors.specs.Shown.{Shown, mark_after, sent_after, CameAlong, clock_from, clock_after, AreTimed, IsShown}
 
 -- ## Before the first event
@@ -22,9 +19,9 @@ none_marked : (k : ℕ) → mark_after [] k ≡ 0
 none_marked zero = refl
 none_marked (suc k) = refl
 
-pub shown_empty : {M : Type 0} (came_from : CameFrom M) (top : TopologyValue) (node : ℕ) (sent : ℕ → List Envelope) (machine : M) → ((to : ℕ) → [] ≡ sent to)
-    → came_from top node [] (λ to. []) [] machine → IsShown came_from top node [] sent true
-shown_empty {M = M} came_from top node sent machine nothing came = record {
+pub shown_empty : {M : Type 0} (came_from : CameFrom M) (top : TopologyValue) (node : ℕ) (machine : M)
+    → came_from top node [] [] [] machine → IsShown came_from top node [] [] true
+shown_empty {M = M} came_from top node machine came = record {
   shown = record { journal = []; sent = []; marks = [] };
   its = refl;
   along = record {
@@ -33,12 +30,12 @@ shown_empty {M = M} came_from top node sent machine nothing came = record {
     within = λ k. subst (λ m. m ≤ 0) (sym (none_marked k)) (omega arith);
     came = at;
   };
-  sends = nothing;
+  sends = refl;
   told = λ is k i e low lt at_i. absurd (let none = none_marked (suc k) in omega (arith, lt, none));
   exact = λ timed. refl;
 }
   where
-    at : (k : ℕ) → k ≤ 0 → (machine : M) × (outcomes : List (ℕ × Outcome)) × came_from top node (take k []) (λ to. sends_to to (sent_after (record { journal = []; sent = []; marks = [] }) k)) outcomes machine
+    at : (k : ℕ) → k ≤ 0 → (machine : M) × (outcomes : List (ℕ × Outcome)) × came_from top node (take k []) (sent_after (record { journal = []; sent = []; marks = [] }) k) outcomes machine
     at zero le = (machine, [], came)
     at (suc k) le = absurd (omega arith)
 
@@ -139,23 +136,23 @@ module _ {M : Type 0} (came_from : CameFrom M) (top : TopologyValue) (node : ℕ
   sent_new : sent_after more (suc (length s.journal)) ≡ s.sent ++ fresh
   sent_new = ap (λ m. take m (s.sent ++ fresh)) mark_new ∙ take_all (length (s.sent ++ fresh)) (s.sent ++ fresh) (omega arith)
 
-  module _ (machine : M) (outcomes : List (ℕ × Outcome)) (came : came_from top node (s.journal ++ x ∷ []) (λ to. sends_to to (s.sent ++ fresh)) outcomes machine) where
+  module _ (machine : M) (outcomes : List (ℕ × Outcome)) (came : came_from top node (s.journal ++ x ∷ []) (s.sent ++ fresh) outcomes machine) where
     came_more : (k : ℕ) → k ≤ length (s.journal ++ x ∷ [])
-        → (machine : M) × (outcomes : List (ℕ × Outcome)) × came_from top node (take k (s.journal ++ x ∷ [])) (λ to. sends_to to (sent_after more k)) outcomes machine
+        → (machine : M) × (outcomes : List (ℕ × Outcome)) × came_from top node (take k (s.journal ++ x ∷ [])) (sent_after more k) outcomes machine
     came_more k le = elim (when k) [
       | inl early ↦
           let old = along.came k early in (
             old.0,
             old.1,
-            subst (λ es. came_from top node (take k (s.journal ++ x ∷ [])) (λ to. sends_to to es) old.1 old.0) (sym (sent_old k early))
-                (subst (λ xs. came_from top node xs (λ to. sends_to to (sent_after s k)) old.1 old.0) (sym (take-append-le k s.journal (x ∷ []) early)) old.2),
+            subst (λ es. came_from top node (take k (s.journal ++ x ∷ [])) es old.1 old.0) (sym (sent_old k early))
+                (subst (λ xs. came_from top node xs (sent_after s k) old.1 old.0) (sym (take-append-le k s.journal (x ∷ []) early)) old.2),
           )
       | inr (inl new) ↦ (
         machine,
         outcomes,
-        subst (λ n. came_from top node (take n (s.journal ++ x ∷ [])) (λ to. sends_to to (sent_after more n)) outcomes machine) (sym new)
-            (subst (λ es. came_from top node (take (suc (length s.journal)) (s.journal ++ x ∷ [])) (λ to. sends_to to es) outcomes machine) (sym sent_new)
-            (subst (λ xs. came_from top node xs (λ to. sends_to to (s.sent ++ fresh)) outcomes machine)
+        subst (λ n. came_from top node (take n (s.journal ++ x ∷ [])) (sent_after more n) outcomes machine) (sym new)
+            (subst (λ es. came_from top node (take (suc (length s.journal)) (s.journal ++ x ∷ [])) es outcomes machine) (sym sent_new)
+            (subst (λ xs. came_from top node xs (s.sent ++ fresh) outcomes machine)
             (sym (take_all (suc (length s.journal)) (s.journal ++ x ∷ []) (let l = one_longer in omega (arith, l)))) came)),
       )
       | inr (inr past) ↦ absurd (let l = one_longer in let p = past.1 in let q = past.2 in omega (arith, le, l, p, q))
@@ -224,19 +221,19 @@ first_of [] j e at = absurd (cc)
 first_of (x ∷ es) j e at = (x, refl)
 
 pub shown_more : {M : Type 0} (came_from : CameFrom M) (top : TopologyValue) (node : ℕ) (journal next : List ActorEvent) (x : ActorEvent) (fresh : List Envelope)
-    (before after : ℕ → List Envelope) (timed now : Bool) (clock : ℕ) (machine : M) (outcomes : List (ℕ × Outcome))
-    → IsShown came_from top node journal before timed → next ≡ journal ++ x ∷ [] → came_from top node next after outcomes machine
-    → ((to : ℕ) → after to ≡ before to ++ sends_to to fresh) → clock ≡ min (clock_from 0 next) (2 ^ 48)
+    (sent : List Envelope) (timed now : Bool) (clock : ℕ) (machine : M) (outcomes : List (ℕ × Outcome))
+    → IsShown came_from top node journal sent timed → next ≡ journal ++ x ∷ [] → came_from top node next (sent ++ fresh) outcomes machine
+    → clock ≡ min (clock_from 0 next) (2 ^ 48)
     → now ≡ (timed && list_all (λ (e : Envelope). e.time == clock) fresh) → ((e : Envelope) → slice_get fresh 0 ≡ Some e → e.time < 2 ^ 48)
-    → IsShown came_from top node next after now
-shown_more {M = M} came_from top node journal next x fresh before after timed now clock machine outcomes was next_is came goes clock_is now_is below =
+    → IsShown came_from top node next (sent ++ fresh) now
+shown_more {M = M} came_from top node journal next x fresh sent timed now clock machine outcomes was next_is came clock_is now_is below =
     record {
       shown = more came_from top node s x fresh was.along;
       its = sym its;
       along = along_more came_from top node s x fresh was.along machine outcomes
-          (subst (λ (sends : ℕ → List Envelope). came_from top node (s.journal ++ x ∷ []) sends outcomes machine) (fun_ext sends)
-          (subst (λ xs. came_from top node xs after outcomes machine) its came));
-      sends = λ to. sym (sends to);
+          (subst (λ es. came_from top node (s.journal ++ x ∷ []) es outcomes machine) (sym sends)
+          (subst (λ xs. came_from top node xs (sent ++ fresh) outcomes machine) its came));
+      sends = sends;
       told = λ is.
           let both = both_true timed _ (sym now_is ∙ is) in
           timed_more came_from top node s x fresh was.along (was.told both.0) (λ j e at.
@@ -262,8 +259,8 @@ shown_more {M = M} came_from top node journal next x fresh before after timed no
     its : next ≡ s.journal ++ x ∷ []
     its = next_is ∙ ap (λ l. l ++ x ∷ []) (sym was.its)
 
-    sends : (to : ℕ) → after to ≡ sends_to to (s.sent ++ fresh)
-    sends to = goes to ∙ ap (λ l. l ++ sends_to to fresh) (sym (was.sends to)) ∙ sym (filter-append (λ (e : Envelope). e.to == to) s.sent fresh)
+    sends : s.sent ++ fresh ≡ sent ++ fresh
+    sends = ap (λ l. l ++ fresh) was.sends
 
     in_time : (time : ℕ) → time ≡ clock → clock < 2 ^ 48 → time ≡ clock_from 0 next
     in_time time is low = omega (arith, is, low, clock_is)

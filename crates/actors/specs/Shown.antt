@@ -6,7 +6,6 @@ use Rattle.messages.specs.declared.outcome.Outcome.{Outcome}
 use Rattle.messages.specs.declared.event.ActorEvent.{ActorEvent}
 use Rattle.messages.specs.declared.event.ActorEvent.TheVariants.{Submit, Handle, Collect}
 use Rattle.messages.specs.Topology.{TopologyValue}
-use Rattle.actors.specs.Journals.{sends_to}
 use Rattle.actors.specs.CameFrom.{CameFrom}
 
 -- A journal, all that its events sent, in order, and how many of these were sent after each event.
@@ -24,13 +23,13 @@ mark_after marks (suc k) = unwrap_or (slice_get marks k) 0
 abbrev pub sent_after : Shown → ℕ → List Envelope
 sent_after s k = take (mark_after s.marks k) s.sent
 
--- At each moment a machine had come from the journal up to there, and what went to each node was what had been sent up to there.
+-- At each moment a machine had come from the journal up to there, and what that sent was what had been sent up to there.
 pub record CameAlong {M : Type 0} (came_from : CameFrom M) (top : TopologyValue) (node : ℕ) (s : Shown) : Type 0 where
   pub marked : length s.marks ≡ length s.journal
   pub all : mark_after s.marks (length s.journal) ≡ length s.sent
   pub within : (k : ℕ) → mark_after s.marks k ≤ length s.sent
   pub came : (k : ℕ) → k ≤ length s.journal
-      → (machine : M) × (outcomes : List (ℕ × Outcome)) × came_from top node (take k s.journal) (λ to. sends_to to (sent_after s k)) outcomes machine
+      → (machine : M) × (outcomes : List (ℕ × Outcome)) × came_from top node (take k s.journal) (sent_after s k) outcomes machine
 
 -- ## Clocks, by the journal alone
 
@@ -55,13 +54,13 @@ AreTimed s =
     (k i : ℕ) (e : Envelope) → mark_after s.marks k ≤ i → i < mark_after s.marks (suc k) → slice_get s.sent i ≡ Some e
     → e.time ≡ clock_after s.journal (suc k)
 
--- The events of a journal sent such envelopes to each node, while machines came along; and this tells whether each carries the
+-- The events of a journal sent these envelopes, in order, while machines came along; and this tells whether each carries the
 -- clock of its event.
-pub record IsShown {M : Type 0} (came_from : CameFrom M) (top : TopologyValue) (node : ℕ) (journal : List ActorEvent) (sent : ℕ → List Envelope)
+pub record IsShown {M : Type 0} (came_from : CameFrom M) (top : TopologyValue) (node : ℕ) (journal : List ActorEvent) (sent : List Envelope)
     (timed : Bool) : Type 0 where
   pub shown : Shown
   pub its : shown.journal ≡ journal
   pub along : CameAlong came_from top node shown
-  pub sends : (to : ℕ) → sends_to to shown.sent ≡ sent to
+  pub sends : shown.sent ≡ sent
   pub told : timed ≡ true → AreTimed shown
   pub exact : AreTimed shown → timed ≡ true

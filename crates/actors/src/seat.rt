@@ -1,10 +1,12 @@
 //! Machines in their seats.
-ghost use Rattle.std.specs.Prelude.{◌≡◌, ◌≤◌, ◌<◌, ◌++◌, ◌∷◌, [], ◌==◌, ◌&&◌, ◌⊎◌, length, None, All, true, false, IsSome, IfSome, slice_get, IfOk, OnOk, IfErr, OnErr};
+ghost use Rattle.std.specs.Prelude.{◌≡◌, ◌≤◌, ◌<◌, ◌++◌, ◌∷◌, [], ◌==◌, ◌&&◌, ◌⊎◌, length, None, List, All, true, false, IsSome, IfSome, slice_get, IfOk, OnOk, IfErr, OnErr};
+ghost use Rattle.messages.specs.declared.envelope.Envelope.{Envelope};
 ghost use Rattle.messages.specs.declared.event.ActorEvent.{ActorEvent};
 ghost use Rattle.messages.specs.declared.event.ActorEvent.TheVariants as event;
 ghost use Rattle.messages.specs.Topology.{node_count};
 ghost use Rattle.std.specs.Option.{option_copied};
 ghost use Rattle.actors.specs.Journals.{submissions, number_after, followed_by, IsOwn};
+ghost use Rattle.actors.specs.Machines.{GoesBy};
 ghost use Rattle.actors.specs.Seats.{Keeps, rings, through, ends_of, sources_of};
 ghost use Rattle.actors.specs.Resting.{unsent, IsFlushed, IsSorted, WasEmpty, HasNoEvent};
 ghost use Rattle.actors.specs.Looking.{IsNext};
@@ -373,7 +375,7 @@ impl<M: Machine> Seat<M> {
 
     /// Its machine, the ways of what it sent, and its journal.
     fn ended(self) -> (M, Ways, Vec<ActorEvent>)
-        ensures came { M.came_from self.topology self.node self.journal (followed_by (through self.outgoing) self.outbox) self.outcomes result.0 }
+        ensures came { (sent : List Envelope) × GoesBy (through self.outgoing) self.outbox sent × M.came_from self.topology self.node self.journal sent self.outcomes result.0 }
         ensures taken { M.untaken result.0 ≡ None }
         ensures free { M.is_free result.0 ≡ self.free }
     {
@@ -397,7 +399,7 @@ impl<M: Machine> Seat<M> {
 
     /// Ends the seat, and hands back its machine.
     pub fn close(self) -> M
-        ensures came { M.came_from self.topology self.node self.journal (followed_by (through self.outgoing) self.outbox) self.outcomes result }
+        ensures came { (sent : List Envelope) × GoesBy (through self.outgoing) self.outbox sent × M.came_from self.topology self.node self.journal sent self.outcomes result }
         ensures taken { M.untaken result ≡ None }
         ensures free { M.is_free result ≡ self.free }
     {
@@ -408,7 +410,7 @@ impl<M: Machine> Seat<M> {
     /// The same for a program that ends with it: the memory of its journal and of what it sent is given back with that of the
     /// process, which spares a walk through all of it.
     pub fn leave(self) -> M
-        ensures came { M.came_from self.topology self.node self.journal (followed_by (through self.outgoing) self.outbox) self.outcomes result }
+        ensures came { (sent : List Envelope) × GoesBy (through self.outgoing) self.outbox sent × M.came_from self.topology self.node self.journal sent self.outcomes result }
         ensures taken { M.untaken result ≡ None }
         ensures free { M.is_free result ≡ self.free }
     {

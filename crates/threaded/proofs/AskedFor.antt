@@ -17,8 +17,7 @@ use Rattle.messages.specs.Shard.{ShardState, Decision}
 use Rattle.messages.specs.Known.{decision_of}
 use Rattle.messages.specs.Actors.{ActorState, OfShard, Replayed}
 use Rattle.messages.proofs.Numbering.{shard_is_shard}
-use Rattle.actors.specs.Journals.{followed_by}
-use Rattle.actors.specs.Seats.{SeatValue, Keeps, through}
+use Rattle.actors.specs.Seats.{SeatValue, Keeps}
 use Rattle.world.specs.Asked.{entry_of}
 use Rattle.world.specs.Histories.{batch_in}
 use Rattle.world.specs.Threads.{op_in}
@@ -60,11 +59,11 @@ module _ (top : TopologyValue) (states : ℕ → ShardState) (home : HomeValue) 
       let journal : s.journal ≡ journal_of seats node = sym (ap journal_at there) in
       let of : s.topology ≡ top = asked.are.topology place s here in
       let own : s.node ≡ node = eqb-true s.node node (found (λ (z : SeatValue). z.node == node) seats s there).1 in
-      let sent : ℕ → List _ = followed_by (through s.outgoing) s.outbox in
+      let sent = keeps.recorded.sent in
       let came : CameFrom top node (journal_of seats node) sent s.outcomes machine =
       subst (λ (t : TopologyValue). CameFrom t node (journal_of seats node) sent s.outcomes machine) of
       (subst (λ n. CameFrom s.topology n (journal_of seats node) sent s.outcomes machine) own
-      (subst (λ l. CameFrom s.topology s.node l sent s.outcomes machine) journal keeps.recorded.came)) in
+      (subst (λ l. CameFrom s.topology s.node l sent s.outcomes machine) journal keeps.recorded.past.came)) in
       let told = asked.replays node a_shard in
       let r = told.1 in
       let i = came.comes told.0 in

@@ -1,11 +1,11 @@
 -- Shards and sessions as machines: one event more in the journal, and before the first.
 use Rattle.std.proofs.Common.{append-nil, ◌≡◌, ◌∙◌, ℕ, ◌+◌, ◌-◌, ◌<◌, Bool, true, false, List, [], ◌∷◌, ◌++◌, map, length, Option, Some, None, Result, Ok, Err, ◌⊎◌, inl, inr, refl, sym, ap, subst, arith}
-use Rattle.std.specs.Prelude.{◌==◌, not, if◌then◌else◌, filter_map, slice_get, option_to_list, option_and_then}
+use Rattle.std.specs.Prelude.{not, if◌then◌else◌, filter_map, slice_get, option_to_list, option_and_then}
 use Rattle.std.specs.List.{cons_option}
 use Rattle.std.specs.Option.{unwrap_or}
 use Rattle.std.proofs.lemmas.List.{append_assoc, length-append, map-append}
 use Rattle.std.proofs.lemmas.Bool.Decides.{nat_tests}
-use Rattle.std.proofs.lemmas.List.Elements.{filter-append, filter_map-append}
+use Rattle.std.proofs.lemmas.List.Elements.{filter_map-append}
 use Rattle.logical_time.specs.declared.fault.Fault.{Fault}
 use Rattle.messages.specs.declared.envelope.Envelope.{Envelope}
 use Rattle.messages.specs.declared.outcome.Outcome.{Outcome}
@@ -24,7 +24,7 @@ use Rattle.shard.specs.Kept as shard
 use Rattle.client.specs.declared.kept.SessionKept.{SessionKept}
 use Rattle.client.specs.Represents as session
 use Rattle.client.specs.State.{state_of, finished_of}
-use Rattle.actors.specs.Journals.{op_in, submissions, sends_to, followed_by}
+use Rattle.actors.specs.Journals.{op_in, submissions}
 use Rattle.world.proofs.growing.Prefixes.{get_there}
 use Rattle.world.proofs.steps.Moves.{counts_session, op_count, shard_took, session_took}
 use Rattle.world.proofs.steps.Counted.{step_count}
@@ -101,8 +101,8 @@ as_list : {X : Type 0} (o : Option X) → cons_option o [] ≡ option_to_list o
 as_list None = refl
 as_list (Some x) = refl
 
-module _ (top : TopologyValue) (node : ℕ) (journal : List ActorEvent) (before : ℕ → List Envelope) (outcomes : List (ℕ × Outcome)) (old new : Actor) (x : ActorEvent)
-    (sent now : List Envelope) (came : CameFrom top node journal (followed_by before sent) outcomes old) (taken : untaken_of old ≡ None)
+module _ (top : TopologyValue) (node : ℕ) (journal : List ActorEvent) (before : List Envelope) (outcomes : List (ℕ × Outcome)) (old new : Actor) (x : ActorEvent)
+    (sent now : List Envelope) (came : CameFrom top node journal (before ++ sent) outcomes old) (taken : untaken_of old ≡ None)
     (did : (a : ActorState) → Stands top node old a → DidStep top node x new sent now a) (waits : WaitsAsOpen new) where
   goes_on : (apart : StaysApart top node journal) → (r : Replayed) × (replay_of top node (journal ++ x ∷ []) ≡ Some r)
   goes_on apart =
@@ -110,7 +110,7 @@ module _ (top : TopologyValue) (node : ℕ) (journal : List ActorEvent) (before 
       let d = did c.replay.state c.stands in
       (_, replay_push top node (opening_actor top node) journal x c.replay d.step c.replays d.takes)
 
-  comes_so : StaysApart top node (journal ++ x ∷ []) → IsReplay top node (journal ++ x ∷ []) (followed_by before now) outcomes new
+  comes_so : StaysApart top node (journal ++ x ∷ []) → IsReplay top node (journal ++ x ∷ []) (before ++ now) outcomes new
   comes_so apart =
       let c = came.comes (apart_before top node journal (x ∷ []) apart) in
       let d = did c.replay.state c.stands in
@@ -122,12 +122,8 @@ module _ (top : TopologyValue) (node : ℕ) (journal : List ActorEvent) (before 
         replays = replays;
         stands = d.stands here;
         free = free_is top node new d.step.state waits (d.stands here);
-        sends = λ to.
-            ap (λ l. before to ++ sends_to to l) (d.sends here)
-            ∙ ap (λ l. before to ++ l) (filter-append (λ (e : Envelope). e.to == to) sent d.step.sends)
-            ∙ sym (append_assoc (before to) (sends_to to sent) (sends_to to d.step.sends))
-            ∙ ap (λ l. l ++ sends_to to d.step.sends) (c.sends to)
-            ∙ sym (filter-append (λ (e : Envelope). e.to == to) c.replay.sent d.step.sends);
+        sends =
+            ap (λ l. before ++ l) (d.sends here) ∙ sym (append_assoc before sent d.step.sends) ∙ ap (λ l. l ++ d.step.sends) c.sends;
         finishes =
             ap (λ l. l ++ cons_option d.step.finishes []) c.finishes
             ∙ ap (λ o. (map as_finished outcomes ++ option_to_list (finished_of o)) ++ cons_option d.step.finishes []) taken
@@ -137,7 +133,7 @@ module _ (top : TopologyValue) (node : ℕ) (journal : List ActorEvent) (before 
       }
 
   pub one_more : is_of_shard new ≡ is_of_shard old → accepted_by new ≡ submissions (journal ++ x ∷ [])
-      → CameFrom top node (journal ++ x ∷ []) (followed_by before now) outcomes new
+      → CameFrom top node (journal ++ x ∷ []) (before ++ now) outcomes new
   one_more kind accepted =
       record {
         kind = came.kind ∙ sym kind;
@@ -175,9 +171,9 @@ module _ (top : TopologyValue) (node : ℕ) (x : ActorEvent) (step : ShardState 
             finishes = refl;
           }
 
-  shard_came : op_in x ≡ None → (journal : List ActorEvent) (before : ℕ → List Envelope) (outcomes : List (ℕ × Outcome))
-      → CameFrom top node journal (followed_by before sent) outcomes (actor.Shard k)
-      → CameFrom top node (journal ++ x ∷ []) (followed_by before now) outcomes (actor.Shard l)
+  shard_came : op_in x ≡ None → (journal : List ActorEvent) (before : List Envelope) (outcomes : List (ℕ × Outcome))
+      → CameFrom top node journal (before ++ sent) outcomes (actor.Shard k)
+      → CameFrom top node (journal ++ x ∷ []) (before ++ now) outcomes (actor.Shard l)
   shard_came none journal before outcomes came =
       let count : submissions (x ∷ []) ≡ 0 = ap (λ o. length (cons_option o [])) none in
       let more = submissions_more journal x in
@@ -186,9 +182,9 @@ module _ (top : TopologyValue) (node : ℕ) (x : ActorEvent) (step : ShardState 
 
 pub shard_handled : (e : Envelope) (k l : ShardKept) (sent now : List Envelope)
     → ((top : TopologyValue) (me : ℕ) (a : ShardState) → shard.Represents top me k a → shard.IsStepOf top me (shard_handle top me a e) l sent now)
-    → (top : TopologyValue) (node : ℕ) (journal : List ActorEvent) (before : ℕ → List Envelope) (outcomes : List (ℕ × Outcome))
-    → CameFrom top node journal (followed_by before sent) outcomes (actor.Shard k)
-    → CameFrom top node (journal ++ Handle e ∷ []) (followed_by before now) outcomes (actor.Shard l)
+    → (top : TopologyValue) (node : ℕ) (journal : List ActorEvent) (before : List Envelope) (outcomes : List (ℕ × Outcome))
+    → CameFrom top node journal (before ++ sent) outcomes (actor.Shard k)
+    → CameFrom top node (journal ++ Handle e ∷ []) (before ++ now) outcomes (actor.Shard l)
 shard_handled e k l sent now does top node journal before outcomes came =
     shard_came top node (Handle e) (λ a. shard_handle top node a e) (λ a. refl) k l sent now (does top node) refl journal before outcomes came
 
@@ -198,9 +194,9 @@ kept_sends xs sends q = sym (append-nil xs) ∙ ap (λ l. xs ++ l) q
 
 pub shard_collected : (time : ℕ) (k l : ShardKept) (sent : List Envelope)
     → ((top : TopologyValue) (me : ℕ) (a : ShardState) → shard.Represents top me k a → shard.IsStepOf top me (shard_collect a time) l [] [])
-    → (top : TopologyValue) (node : ℕ) (journal : List ActorEvent) (before : ℕ → List Envelope) (outcomes : List (ℕ × Outcome))
-    → CameFrom top node journal (followed_by before sent) outcomes (actor.Shard k)
-    → CameFrom top node (journal ++ Collect time ∷ []) (followed_by before sent) outcomes (actor.Shard l)
+    → (top : TopologyValue) (node : ℕ) (journal : List ActorEvent) (before : List Envelope) (outcomes : List (ℕ × Outcome))
+    → CameFrom top node journal (before ++ sent) outcomes (actor.Shard k)
+    → CameFrom top node (journal ++ Collect time ∷ []) (before ++ sent) outcomes (actor.Shard l)
 shard_collected time k l sent does top node journal before outcomes came =
     shard_came top node (Collect time) (λ a. shard_collect a time) (λ a. refl) k l sent sent
     (λ a stands. go (shard_collect a time) (does top node a stands)) refl journal before outcomes came
@@ -210,7 +206,7 @@ shard_collected time k l sent does top node journal before outcomes came =
     go (Ok s) h = λ apart. record { state = (h apart).state; sends = kept_sends sent s.sends (h apart).sends }
 
 pub shard_still : (k l : ShardKept) → shard.GoesOn k l
-    → (top : TopologyValue) (node : ℕ) (journal : List ActorEvent) (sent : ℕ → List Envelope) (outcomes : List (ℕ × Outcome))
+    → (top : TopologyValue) (node : ℕ) (journal : List ActorEvent) (sent : List Envelope) (outcomes : List (ℕ × Outcome))
     → CameFrom top node journal sent outcomes (actor.Shard k) → CameFrom top node journal sent outcomes (actor.Shard l)
 shard_still k l still top node journal sent outcomes came =
     record {
@@ -233,7 +229,7 @@ shard_still k l still top node journal sent outcomes came =
     go (OfSession a) stands = stands
 
 pub shard_opens : (top : TopologyValue) (node : ℕ) (k : ShardKept) → is_shard top node ≡ true → shard.Represents top node k new_shard
-    → CameFrom top node [] (λ to. []) [] (actor.Shard k)
+    → CameFrom top node [] [] [] (actor.Shard k)
 shard_opens top node k is represents =
     let here : Stands top node (actor.Shard k) (opening_actor top node) = subst (λ a. Stands top node (actor.Shard k) a)
     (sym (ap (λ b. if b then OfShard new_shard else OfSession (new_session (unwrap_or (home_of top node) 0))) is)) represents in
@@ -247,7 +243,7 @@ shard_opens top node k is represents =
         replays = refl;
         stands = here;
         free = free_is top node (actor.Shard k) (opening_actor top node) tt here;
-        sends = λ to. refl;
+        sends = refl;
         finishes = refl;
       };
     }
@@ -303,9 +299,9 @@ module _ (top : TopologyValue) (node : ℕ) (x : ActorEvent) (step : ℕ → Ses
       go (Err e) q h = absurd h
       go (Ok s) q h = waits a s tied q stands.1.state h.state.state
 
-  pub session_came : (journal : List ActorEvent) (before : ℕ → List Envelope) (outcomes : List (ℕ × Outcome))
-      → CameFrom top node journal (followed_by before sent) outcomes (actor.Session k w None)
-      → CameFrom top node (journal ++ x ∷ []) (followed_by before now) outcomes (actor.Session m v ended)
+  pub session_came : (journal : List ActorEvent) (before : List Envelope) (outcomes : List (ℕ × Outcome))
+      → CameFrom top node journal (before ++ sent) outcomes (actor.Session k w None)
+      → CameFrom top node (journal ++ x ∷ []) (before ++ now) outcomes (actor.Session m v ended)
   session_came journal before outcomes came =
       let c = came.comes (session_apart top node journal came.kind) in
       let count = counted c.replay.state c.stands in
@@ -324,26 +320,26 @@ node_taken l m took = ap (λ (z : SessionKept). z.node) took.kept
 pub session_heard : (e : Envelope) (k l m : SessionKept) (w v : Bool) (none ended : Option (ℕ × Outcome)) (sent now : List Envelope)
     → ((top : TopologyValue) (a : SessionState) → session.Represents k top a → session.IsStepOf (session_handle top k.node a e) top l sent now)
     → l.node ≡ k.node → IsTaken l m → TookOutcome l m w v ended → none ≡ None
-    → (top : TopologyValue) (node : ℕ) (journal : List ActorEvent) (before : ℕ → List Envelope) (outcomes : List (ℕ × Outcome))
-    → CameFrom top node journal (followed_by before sent) outcomes (actor.Session k w none)
-    → CameFrom top node (journal ++ Handle e ∷ []) (followed_by before now) outcomes (actor.Session m v ended)
+    → (top : TopologyValue) (node : ℕ) (journal : List ActorEvent) (before : List Envelope) (outcomes : List (ℕ × Outcome))
+    → CameFrom top node journal (before ++ sent) outcomes (actor.Session k w none)
+    → CameFrom top node (journal ++ Handle e ∷ []) (before ++ now) outcomes (actor.Session m v ended)
 session_heard e k l m w v none ended sent now does stays taken took is top node journal before outcomes came =
     session_came top node (Handle e) (λ n a. session_handle top n a e) (λ a. refl) k l m w v ended sent now (does top) (node_taken l m took ∙ stays) (taken top) took.ends
-    (waits_heard e top node k l m w v ended took) journal before outcomes (subst (λ o. CameFrom top node journal (followed_by before sent) outcomes (actor.Session k w o)) is came)
+    (waits_heard e top node k l m w v ended took) journal before outcomes (subst (λ o. CameFrom top node journal (before ++ sent) outcomes (actor.Session k w o)) is came)
 
 pub session_submitted : (o : Op) (k l m : SessionKept) (w v : Bool) (none ended : Option (ℕ × Outcome)) (sent now : List Envelope)
     → ((top : TopologyValue) (a : SessionState) → session.Represents k top a → session.IsStepOf (session_submit top k.node a o) top l sent now)
     → l.node ≡ k.node → IsTaken l m → TookOutcome l m true v ended → none ≡ None
-    → (top : TopologyValue) (node : ℕ) (journal : List ActorEvent) (before : ℕ → List Envelope) (outcomes : List (ℕ × Outcome))
-    → CameFrom top node journal (followed_by before sent) outcomes (actor.Session k w none)
-    → CameFrom top node (journal ++ Submit o ∷ []) (followed_by before now) outcomes (actor.Session m v ended)
+    → (top : TopologyValue) (node : ℕ) (journal : List ActorEvent) (before : List Envelope) (outcomes : List (ℕ × Outcome))
+    → CameFrom top node journal (before ++ sent) outcomes (actor.Session k w none)
+    → CameFrom top node (journal ++ Submit o ∷ []) (before ++ now) outcomes (actor.Session m v ended)
 session_submitted o k l m w v none ended sent now does stays taken took is top node journal before outcomes came =
     session_came top node (Submit o) (λ n a. session_submit top n a o) (λ a. refl) k l m w v ended sent now (does top) (node_taken l m took ∙ stays) (taken top) took.ends
-    (λ a s tied q was. waits_submitted o top node l m v ended took a s q) journal before outcomes (subst (λ z. CameFrom top node journal (followed_by before sent) outcomes (actor.Session k w z)) is came)
+    (λ a s tied q was. waits_submitted o top node l m v ended took a s q) journal before outcomes (subst (λ z. CameFrom top node journal (before ++ sent) outcomes (actor.Session k w z)) is came)
 
 -- a session's outcome is taken
 pub outcome_taken : (k : SessionKept) (w : Bool) (ended : Option (ℕ × Outcome)) (top : TopologyValue) (node : ℕ) (journal : List ActorEvent)
-    (sent : ℕ → List Envelope) (outcomes : List (ℕ × Outcome)) → CameFrom top node journal sent outcomes (actor.Session k w ended)
+    (sent : List Envelope) (outcomes : List (ℕ × Outcome)) → CameFrom top node journal sent outcomes (actor.Session k w ended)
     → CameFrom top node journal sent (outcomes ++ option_to_list ended) (actor.Session k w None)
 outcome_taken k w ended top node journal sent outcomes came =
     record {
@@ -370,7 +366,7 @@ outcome_taken k w ended top node journal sent outcomes came =
     told None = refl
     told (Some p) = refl
 
-pub nothing_taken : (k : ShardKept) (top : TopologyValue) (node : ℕ) (journal : List ActorEvent) (sent : ℕ → List Envelope) (outcomes : List (ℕ × Outcome))
+pub nothing_taken : (k : ShardKept) (top : TopologyValue) (node : ℕ) (journal : List ActorEvent) (sent : List Envelope) (outcomes : List (ℕ × Outcome))
     → CameFrom top node journal sent outcomes (actor.Shard k) → CameFrom top node journal sent (outcomes ++ []) (actor.Shard k)
 nothing_taken k top node journal sent outcomes came = subst (λ l. CameFrom top node journal sent l (actor.Shard k)) (sym (append-nil outcomes)) came
 
@@ -384,7 +380,7 @@ session_home top node away lt =
 
 pub session_opens : (top : TopologyValue) (node : ℕ) (k : SessionKept) → is_shard top node ≡ false → k.node ≡ node
     → ((home : ℕ) → home_of top node ≡ Some home → session.Represents k top (new_session home)) → (home : ℕ) → home_of top node ≡ Some home
-    → CameFrom top node [] (λ to. []) [] (actor.Session k false None)
+    → CameFrom top node [] [] [] (actor.Session k false None)
 session_opens top node k away own represents home is =
     let here : Stands top node (actor.Session k false None) (opening_actor top node) = subst (λ a. Stands top node (actor.Session k false None) a)
     (sym (opens_session top node away ∙ ap (λ o. OfSession (new_session (unwrap_or o 0))) is)) (own, represents home is) in
@@ -401,7 +397,7 @@ session_opens top node k away own represents home is =
         replays = refl;
         stands = here;
         free = free_is top node (actor.Session k false None) (opening_actor top node) waits here;
-        sends = λ to. refl;
+        sends = refl;
         finishes = refl;
       };
     }

@@ -222,7 +222,7 @@ module _ (top : TopologyValue) (seats : List SeatValue) (c : AreConcluded top se
     shows_sent from to lt =
         let i = seated top seats from c.are kept lt in
         let r = i.came.comes (subst (λ l. StaysApart top from l) (sym i.journal) (apart_here top seats c.are c.run.0 c.run.1 from lt)) in
-        ap (λ o. sent_at o to) i.found ∙ r.sends to
+        ap (λ o. sent_at o to) i.found ∙ sym (i.goes to) ∙ ap (sends_to to) r.sends
         ∙ ap (λ o. sends_to to (sent_in o)) (sym r.replays) ∙ ap (λ l. sends_to to (sent_by top from l)) i.journal
 
     pub received_if_counted : ((from to : ℕ) → from < node_count top → to < node_count top → length (sent_to seats from to) ≤ length (receipts_from from (journal_of seats to)))

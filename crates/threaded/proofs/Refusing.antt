@@ -60,7 +60,7 @@ session_fault : (r : Result SessionStep Fault) (e : Fault) → (e ≡ Memory →
 session_fault (Ok s) e other memory = absurd (other memory)
 session_fault (Err f) e other is = ap Some (sym is)
 
-module _ (top : TopologyValue) (node : ℕ) (journal : List ActorEvent) (sent : ℕ → List Envelope) (outcomes : List (ℕ × Outcome)) (machine : Actor)
+module _ (top : TopologyValue) (node : ℕ) (journal : List ActorEvent) (sent : List Envelope) (outcomes : List (ℕ × Outcome)) (machine : Actor)
     (came : CameFrom top node journal sent outcomes machine) (x : ActorEvent) (e : Fault) where
   -- the state for which the machine stands refuses the event so
   refused_as : (is_strange top node x ≡ true → e ≡ StrangerEnd) → ((a : ActorState) → Stands top node machine a → refusal_at top node a x ≡ Some e) → Refuses top node journal x e
@@ -78,7 +78,7 @@ module _ (top : TopologyValue) (node : ℕ) (journal : List ActorEvent) (sent : 
 
 -- ## Shards
 
-module _ (k : ShardKept) (top : TopologyValue) (node : ℕ) (journal : List ActorEvent) (sent : ℕ → List Envelope) (outcomes : List (ℕ × Outcome))
+module _ (k : ShardKept) (top : TopologyValue) (node : ℕ) (journal : List ActorEvent) (sent : List Envelope) (outcomes : List (ℕ × Outcome))
     (came : CameFrom top node journal sent outcomes (actor.Shard k)) where
   pub shard_handle_refused : (f : Envelope) (e : Fault) → ((a : ShardState) → shard.Represents top node k a → shard.IsRefusalOf (shard_handle top node a f) e)
       → (e ≡ Memory) ⊎ Refuses top node journal (Handle f) e
@@ -109,7 +109,7 @@ module _ (k : ShardKept) (top : TopologyValue) (node : ℕ) (journal : List Acto
 
 -- ## Sessions
 
-module _ (k : SessionKept) (w : Bool) (ended : Option (ℕ × Outcome)) (top : TopologyValue) (node : ℕ) (journal : List ActorEvent) (sent : ℕ → List Envelope)
+module _ (k : SessionKept) (w : Bool) (ended : Option (ℕ × Outcome)) (top : TopologyValue) (node : ℕ) (journal : List ActorEvent) (sent : List Envelope)
     (outcomes : List (ℕ × Outcome)) (came : CameFrom top node journal sent outcomes (actor.Session k w ended)) where
   pub session_handle_refused : (f : Envelope) (e : Fault) → ((a : SessionState) → session.Represents k top a → session.IsRefusalOf (session_handle top k.node a f) e)
       → (e ≡ Memory) ⊎ Refuses top node journal (Handle f) e

@@ -5,9 +5,10 @@ use Rattle.std.proofs.lemmas.Bool.Decides.{nat_tests}
 use Rattle.messages.specs.declared.envelope.Envelope.{Envelope}
 use Rattle.messages.specs.declared.event.ActorEvent.TheVariants.{Handle}
 use Rattle.messages.specs.Topology.{TopologyValue, node_count}
-use Rattle.actors.specs.Journals.{receipts_from, sends_to, followed_by}
+use Rattle.actors.specs.Journals.{receipts_from, sends_to}
 use Rattle.actors.specs.Seats.{SeatValue, through}
 use Rattle.actors.specs.Shown.{Shown, AreTimed, IsShown}
+use Rattle.actors.specs.Machines.{GoesBy}
 use Rattle.threaded.specs.declared.actor.Actor.{Actor}
 use Rattle.threaded.specs.Machines.{CameFrom, untaken_of, is_free}
 use Rattle.threaded.specs.OneRun.{seat_of, journal_at, journal_of, AreSeatsOf}
@@ -23,11 +24,13 @@ pub record IsSeated (top : TopologyValue) (seats : List SeatValue) (node : ℕ) 
   pub found : seat_of seats node ≡ Some seat
   pub journal : seat.journal ≡ journal_of seats node
   pub machine : Actor
-  pub came : CameFrom top node seat.journal (followed_by (through seat.outgoing) seat.outbox) seat.outcomes machine
+  pub sent : List Envelope
+  pub goes : GoesBy (through seat.outgoing) seat.outbox sent
+  pub came : CameFrom top node seat.journal sent seat.outcomes machine
   pub taken : untaken_of machine ≡ None
   pub free : seat.free ≡ is_free machine
   pub senders : (e : Envelope) → Contains seat.journal (Handle e) → e.from < node_count top
-  pub shown : IsShown CameFrom top node seat.journal (followed_by (through seat.outgoing) seat.outbox) seat.timed
+  pub shown : IsShown CameFrom top node seat.journal sent seat.timed
 
 pub seated : (top : TopologyValue) (seats : List SeatValue) (node : ℕ) → AreSeatsOf top seats → AreKept (node_count top) seats → node < node_count top → IsSeated top seats node
 seated top seats node are kept lt =
@@ -37,23 +40,26 @@ seated top seats node are kept lt =
     let m = kept node s.0 lt s.1 in
     let own = eqb-true s.0.node node f.1 in
     let of = are.topology k.0 s.0 k.1 in
+    let r = m.1.recorded in
     record {
       seat = s.0;
       found = s.1;
       journal = sym (ap journal_at s.1);
       machine = m.0;
+      sent = r.sent;
+      goes = r.goes;
       came =
-          subst (λ t. CameFrom t node s.0.journal (followed_by (through s.0.outgoing) s.0.outbox) s.0.outcomes m.0) of
-          (subst (λ n. CameFrom s.0.topology n s.0.journal (followed_by (through s.0.outgoing) s.0.outbox) s.0.outcomes m.0) own m.1.recorded.came);
-      taken = m.1.recorded.taken;
+          subst (λ t. CameFrom t node s.0.journal r.sent s.0.outcomes m.0) of
+          (subst (λ n. CameFrom s.0.topology n s.0.journal r.sent s.0.outcomes m.0) own r.past.came);
+      taken = r.past.taken;
       free = m.2;
       senders = λ e has.
           let by = m.1.handled e has in
           let within = m.1.reached by.0 e.from by.1 in
           subst (λ t. e.from < node_count t) of (subst (λ n. n < node_count s.0.topology) by.2 within);
       shown =
-          subst (λ t. IsShown CameFrom t node s.0.journal (followed_by (through s.0.outgoing) s.0.outbox) s.0.timed) of
-          (subst (λ n. IsShown CameFrom s.0.topology n s.0.journal (followed_by (through s.0.outgoing) s.0.outbox) s.0.timed) own m.1.recorded.shown);
+          subst (λ t. IsShown CameFrom t node s.0.journal r.sent s.0.timed) of
+          (subst (λ n. IsShown CameFrom s.0.topology n s.0.journal r.sent s.0.timed) own r.past.shown);
     }
 
 -- ## What all seats show
@@ -75,7 +81,7 @@ module _ (top : TopologyValue) (seats : List SeatValue) (are : AreSeatsOf top se
         record {
           its = w.its ∙ i.journal;
           along = w.along;
-          sends = λ to. w.sends to ∙ sym (ap (λ o. sent_at o to) i.found);
+          sends = λ to. ap (sends_to to) w.sends ∙ i.goes to ∙ sym (ap (λ o. sent_at o to) i.found);
           told = λ seat found yes.
               let both : Some i.seat ≡ Some seat = sym i.found ∙ found in
               let same : i.seat ≡ seat = cc in

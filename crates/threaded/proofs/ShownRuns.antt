@@ -6,7 +6,6 @@ use Rattle.std.specs.List.{cons_option}
 use Rattle.std.proofs.lemmas.Bool.Decides.{nat_tests}
 use Rattle.std.proofs.lemmas.Option.{slice_get_past, slice_get_within}
 use Rattle.std.proofs.lemmas.List.{take-append-drop, take-append-le}
-use Rattle.std.proofs.lemmas.List.Elements.{filter-append}
 use Rattle.std.proofs.Math.Seq.{take-length}
 use Rattle.messages.specs.declared.envelope.Envelope.{Envelope}
 use Rattle.messages.specs.declared.event.ActorEvent.{ActorEvent}
@@ -109,7 +108,7 @@ module _ (top : TopologyValue) (node : ℕ) (s : Shown) (along : DidCome top nod
   pub record IsSoFar (k : ℕ) : Type 0 where
     pub replay : Replayed
     pub replays : replay_of top node (take k s.journal) ≡ Some replay
-    pub sends : (to : ℕ) → sends_to to (sent_after s k) ≡ sends_to to replay.sent
+    pub sends : sent_after s k ≡ replay.sent
 
   pub so_far : (k : ℕ) → k ≤ length s.journal → StaysApart top node (take k s.journal) → IsSoFar k
   so_far k le apart =
@@ -144,7 +143,7 @@ module _ (top : TopologyValue) (node : ℕ) (s : Shown) (along : DidCome top nod
           apart = apart;
           replay = f.replay;
           replays = ap (replay_of top node) (sym (take-length s.journal)) ∙ f.replays;
-          sends = λ to. ap (sends_to to) (sym all) ∙ f.sends to;
+          sends = sym all ∙ f.sends;
         }
 
     -- what an event sends carries its clock
@@ -162,15 +161,11 @@ module _ (top : TopologyValue) (node : ℕ) (s : Shown) (along : DidCome top nod
         sym pushed ∙ ap (replay_of top node) (sym one) ∙ g.replays in
         let same : record { state = t.0.state; sent = f.replay.sent ++ t.0.sends; finished = f.replay.finished ++ cons_option t.0.finishes [] } ≡ g.replay = cc in
         let p = segment s.sent (mark_after s.marks k) (mark_after s.marks (suc k)) i e from below at in
-        let split : sends_to e.to (sent_after s k) ++ sends_to e.to p.part ≡ sends_to e.to (sent_after s k) ++ sends_to e.to t.0.sends =
-        sym (filter-append (λ (z : Envelope). z.to == e.to) (sent_after s k) p.part) ∙ ap (sends_to e.to) (sym p.whole) ∙ g.sends e.to
-        ∙ ap (λ (z : Replayed). sends_to e.to z.sent) (sym same)
-        ∙ filter-append (λ (z : Envelope). z.to == e.to) f.replay.sent t.0.sends
-        ∙ ap (λ l. l ++ sends_to e.to t.0.sends) (sym (f.sends e.to)) in
-        let rest = same_rest (sends_to e.to (sent_after s k)) (sends_to e.to p.part) (sends_to e.to t.0.sends) split in
-        let there = contains_filter (λ (z : Envelope). z.to == e.to) p.part e p.among (eq-eqb e.to e.to refl) in
-        let now = filter_contains (λ (z : Envelope). z.to == e.to) t.0.sends e (subst (λ l. Contains l e) rest there) in
-        let time = ((step_ticks top node f.replay.state x.0 t.0 t.1).sends e now.0).1 in
+        let split : sent_after s k ++ p.part ≡ sent_after s k ++ t.0.sends =
+        sym p.whole ∙ g.sends ∙ ap (λ (z : Replayed). z.sent) (sym same) ∙ ap (λ l. l ++ t.0.sends) (sym f.sends) in
+        let rest = same_rest (sent_after s k) p.part t.0.sends split in
+        let now = subst (λ l. Contains l e) rest p.among in
+        let time = ((step_ticks top node f.replay.state x.0 t.0 t.1).sends e now).1 in
         time ∙ ap (λ (z : Replayed). clock_of z.state) same ∙ clock_told top node (take (suc k) s.journal) g.replay g.replays
 
 -- ## What a run tells of all actors
@@ -190,7 +185,7 @@ module _ (top : TopologyValue) (shown : ℕ → Shown) (some : 0 < top.shards) (
 
     -- what is shown is what the journal sends
     shown_is_sent : (from to : ℕ) → from < node_count top → sends_to to (shown from).sent ≡ sends_to to (sent_by top from (shown from).journal)
-    shown_is_sent from to lt = let t = all_told from lt in t.sends to ∙ ap (sends_to to) (sym (ap sent_in t.replays))
+    shown_is_sent from to lt = let t = all_told from lt in ap (sends_to to) (t.sends ∙ sym (ap sent_in t.replays))
 
     pub links_match : DoShownMatch top shown → DoLinksMatch top (λ n. (shown n).journal)
     links_match match from to f t = let b = match from to f t in (b.0, sym (shown_is_sent from to f) ∙ b.1)
@@ -235,11 +230,10 @@ module _ (top : TopologyValue) (shown : ℕ → Shown) (some : 0 < top.shards) (
         apart_before top m (take (suc p.k) s.journal) (drop (suc p.k) (journal_in w m))
         (subst (λ l. StaysApart top m l) begins (runs_stay_apart top events m some)) in
         let f = so_far top m s (along m lt) (suc p.k) p.within apart in
-        let there = contains_filter (λ (z : Envelope). z.to == e.to) (sent_after s (suc p.k)) e (get_take s.sent i (mark_after s.marks (suc p.k)) e at p.below) (eq-eqb e.to e.to refl) in
-        let early = filter_contains (λ (z : Envelope). z.to == e.to) f.replay.sent e (subst (λ l. Contains l e) (f.sends e.to) there) in
+        let early = subst (λ l. Contains l e) f.sends (get_take s.sent i (mark_after s.marks (suc p.k)) e at p.below) in
         let c = replay_continues top m (opening_actor top m) (take (suc p.k) s.journal) (drop (suc p.k) (journal_in w m)) f.replay (held_in top w m) f.replays
         (ap (replay_of top m) (sym begins) ∙ (run_journals top events some).each m) in
-        let held : Contains (sent_from w m) e = subst (λ l. Contains l e) (sym c.sent) (Contains-append_left f.replay.sent c.rest.sent e early.0) in
+        let held : Contains (sent_from w m) e = subst (λ l. Contains l e) (sym c.sent) (Contains-append_left f.replay.sent c.rest.sent e early) in
         (filter_contains (λ (z : Envelope). z.from == m) w.sent e held).0
 
     shown_before : AreSentBefore top (λ n. (shown n).journal) some

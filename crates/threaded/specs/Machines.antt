@@ -18,7 +18,7 @@ use Rattle.shard.specs.Kept as shard
 use Rattle.client.specs.Represents as session
 use Rattle.client.specs.Current.{open_of}
 use Rattle.client.specs.State.{finished_of}
-use Rattle.actors.specs.Journals.{submissions, sends_to}
+use Rattle.actors.specs.Journals.{submissions}
 use Rattle.threaded.specs.declared.actor.Actor.{Actor}
 use Rattle.threaded.specs.declared.actor.Actor.TheVariants as actor
 
@@ -80,19 +80,19 @@ abbrev pub as_finished : (ℕ × Outcome) → Finished
 as_finished p = record { number = p.0; outcome = p.1 }
 
 -- The machine stands for where the replay of the journal leads, and is free where no operation is open there; what that sent is
--- what went to each node, in order; and what it finished are the outcomes that were taken, and then the one that wasn't.
-pub record IsReplay (top : TopologyValue) (node : ℕ) (journal : List ActorEvent) (sent : ℕ → List Envelope) (outcomes : List (ℕ × Outcome))
+-- what was sent, in order; and what it finished are the outcomes that were taken, and then the one that wasn't.
+pub record IsReplay (top : TopologyValue) (node : ℕ) (journal : List ActorEvent) (sent : List Envelope) (outcomes : List (ℕ × Outcome))
     (machine : Actor) : Type 0 where
   pub replay : Replayed
   pub replays : replay_of top node journal ≡ Some replay
   pub stands : Stands top node machine replay.state
   pub free : is_free machine ≡ has_none_open replay.state
-  pub sends : (to : ℕ) → sent to ≡ sends_to to replay.sent
+  pub sends : sent ≡ replay.sent
   pub finishes : replay.finished ≡ map as_finished outcomes ++ option_to_list (finished_of (untaken_of machine))
 
 -- The machine came from the journal of the actor with a node. No event of it was refused: where stamps stay apart up to an
 -- event, the replay goes on with that. Where they stay apart to the end, the machine is its replay.
-pub record CameFrom (top : TopologyValue) (node : ℕ) (journal : List ActorEvent) (sent : ℕ → List Envelope) (outcomes : List (ℕ × Outcome))
+pub record CameFrom (top : TopologyValue) (node : ℕ) (journal : List ActorEvent) (sent : List Envelope) (outcomes : List (ℕ × Outcome))
     (machine : Actor) : Type 0 where
   pub kind : is_shard top node ≡ is_of_shard machine
   pub accepted : accepted_by machine ≡ submissions journal

@@ -24,9 +24,9 @@ HaveSenders top shown = (node : ℕ) (e : Envelope) → node < node_count top �
 
 -- ## What a run tells of what is shown
 
--- stamps stay apart along the journal, whose replay sends to each node what is shown
+-- stamps stay apart along the journal, whose replay sends what is shown, in order
 pub record IsTold (top : TopologyValue) (node : ℕ) (s : Shown) : Type 0 where
   pub apart : StaysApart top node s.journal
   pub replay : Replayed
   pub replays : replay_of top node s.journal ≡ Some replay
-  pub sends : (to : ℕ) → sends_to to s.sent ≡ sends_to to replay.sent
+  pub sends : s.sent ≡ replay.sent

@@ -7,7 +7,7 @@ ghost use Rattle.messages.specs.Topology.{TopologyValue};
 ghost use Rattle.messages.specs.Session.{SessionState};
 ghost use Rattle.messages.specs.SessionEvents.{session_taken};
 ghost use Rattle.client.specs.Represents.{Represents};
-ghost use Rattle.actors.specs.Journals.{number_after, followed_by};
+ghost use Rattle.actors.specs.Journals.{number_after};
 ghost use Rattle.threaded.specs.Machines.{CameFrom, untaken_of, is_free, Refuses};
 ghost use Rattle.threaded.specs.declared.actor.Actor.TheVariants as actor;
 
@@ -40,13 +40,13 @@ fn step_shard(
     event: ActorEvent,
     outbox: &mut Outbox,
 ) -> Result<Option<u64>, (Fault, ActorEvent)>
-    ensures came { (top : TopologyValue) (node : ℕ) (journal : List ActorEvent) (before : ℕ → List Envelope) (outcomes : List (ℕ × Outcome))
-        → CameFrom top node journal (followed_by before outbox.old.sent) outcomes (actor.Shard shard.old)
-        → OnOk result (CameFrom top node (journal ++ event ∷ []) (followed_by before outbox.new.sent) outcomes (actor.Shard shard.new)) }
+    ensures came { (top : TopologyValue) (node : ℕ) (journal : List ActorEvent) (before : List Envelope) (outcomes : List (ℕ × Outcome))
+        → CameFrom top node journal (before ++ outbox.old.sent) outcomes (actor.Shard shard.old)
+        → OnOk result (CameFrom top node (journal ++ event ∷ []) (before ++ outbox.new.sent) outcomes (actor.Shard shard.new)) }
     ensures number { (journal : List ActorEvent) → IfOk result (λ number. number ≡ number_after journal event) }
-    ensures same { (top : TopologyValue) (node : ℕ) (journal : List ActorEvent) (sent : ℕ → List Envelope) (outcomes : List (ℕ × Outcome))
+    ensures same { (top : TopologyValue) (node : ℕ) (journal : List ActorEvent) (sent : List Envelope) (outcomes : List (ℕ × Outcome))
         → CameFrom top node journal sent outcomes (actor.Shard shard.old) → OnErr result (CameFrom top node journal sent outcomes (actor.Shard shard.new)) }
-    ensures refused { (top : TopologyValue) (node : ℕ) (journal : List ActorEvent) (sent : ℕ → List Envelope) (outcomes : List (ℕ × Outcome))
+    ensures refused { (top : TopologyValue) (node : ℕ) (journal : List ActorEvent) (sent : List Envelope) (outcomes : List (ℕ × Outcome))
         → CameFrom top node journal sent outcomes (actor.Shard shard.old) → IfErr result (λ e. (e.0 ≡ Fault.Memory) ⊎ Refuses top node journal event e.0) }
     ensures unsent { OnErr result (outbox.new.sent ≡ outbox.old.sent) }
     ensures back { IfErr result (λ e. e.1 ≡ event) }
@@ -89,13 +89,13 @@ fn step_session(
     outbox: &mut Outbox,
 ) -> Result<Option<u64>, (Fault, ActorEvent)>
     requires { ended.old ≡ None }
-    ensures came { (top : TopologyValue) (node : ℕ) (journal : List ActorEvent) (before : ℕ → List Envelope) (outcomes : List (ℕ × Outcome))
-        → CameFrom top node journal (followed_by before outbox.old.sent) outcomes (actor.Session session.old waits.old ended.old)
-        → OnOk result (CameFrom top node (journal ++ event ∷ []) (followed_by before outbox.new.sent) outcomes (actor.Session session.new waits.new ended.new)) }
-    ensures number { (top : TopologyValue) (node : ℕ) (journal : List ActorEvent) (sent : ℕ → List Envelope) (outcomes : List (ℕ × Outcome))
+    ensures came { (top : TopologyValue) (node : ℕ) (journal : List ActorEvent) (before : List Envelope) (outcomes : List (ℕ × Outcome))
+        → CameFrom top node journal (before ++ outbox.old.sent) outcomes (actor.Session session.old waits.old ended.old)
+        → OnOk result (CameFrom top node (journal ++ event ∷ []) (before ++ outbox.new.sent) outcomes (actor.Session session.new waits.new ended.new)) }
+    ensures number { (top : TopologyValue) (node : ℕ) (journal : List ActorEvent) (sent : List Envelope) (outcomes : List (ℕ × Outcome))
         → CameFrom top node journal sent outcomes (actor.Session session.old waits.old ended.old) → IfOk result (λ number. number ≡ number_after journal event) }
     ensures same { OnErr result ((session.new ≡ session.old) × (waits.new ≡ waits.old) × (ended.new ≡ ended.old)) }
-    ensures refused { (top : TopologyValue) (node : ℕ) (journal : List ActorEvent) (sent : ℕ → List Envelope) (outcomes : List (ℕ × Outcome))
+    ensures refused { (top : TopologyValue) (node : ℕ) (journal : List ActorEvent) (sent : List Envelope) (outcomes : List (ℕ × Outcome))
         → CameFrom top node journal sent outcomes (actor.Session session.old waits.old ended.old) → IfErr result (λ e. (e.0 ≡ Fault.Memory) ⊎ Refuses top node journal event e.0) }
     ensures unsent { OnErr result (outbox.new.sent ≡ outbox.old.sent) }
     ensures back { IfErr result (λ e. e.1 ≡ event) }

@@ -11,7 +11,7 @@ use Rattle.actors.specs.Journals.{submissions}
 use Rattle.turns.specs.declared.counting.Counter.{Counter}
 
 -- It counted the journal's submissions, whatever it sent, and whatever was taken from it.
-abbrev pub CountsSubmissions : TopologyValue → ℕ → List ActorEvent → (ℕ → List Envelope) → List (ℕ × Outcome) → Counter → Type 0
+abbrev pub CountsSubmissions : TopologyValue → ℕ → List ActorEvent → List Envelope → List (ℕ × Outcome) → Counter → Type 0
 CountsSubmissions top node journal sent outcomes m = m.count ≡ submissions journal
 
 -- a collection with `Collected`, and a submission with `ClockSpent`, where the count is spent

@@ -1,6 +1,5 @@
 use Rattle.std.proofs.Common.{◌≡◌, ◌⊎◌, ◌++◌, ◌∷◌, [], sym, subst}
 use Rattle.logical_time.specs.declared.fault.Fault.TheVariants.{Memory, StrangerEnd}
-use Rattle.actors.specs.Journals.{followed_by}
 use Rattle.threaded.specs.declared.actor.Actor.TheVariants as actor
 use Rattle.threaded.specs.Machines.{CameFrom, Refuses}
 use Rattle.threaded.proofs.Machines.{shard_handled, shard_collected, shard_still}
@@ -9,7 +8,7 @@ use Rattle.threaded.proofs.actor.step_shard.Goals as goal
 
 pub returns-in-Ok-clause-came : goal.returns-in-Ok-clause-came
 returns-in-Ok-clause-came c top node journal before outcomes came =
-    subst (λ x. CameFrom top node (journal ++ x ∷ []) (followed_by before c.handle.new.outbox.sent) outcomes (actor.Shard c.handle.new.self)) (sym c.in-Handle.is)
+    subst (λ x. CameFrom top node (journal ++ x ∷ []) (before ++ c.handle.new.outbox.sent) outcomes (actor.Shard c.handle.new.self)) (sym c.in-Handle.is)
     (shard_handled c.in-Handle.envelope c.args.shard.now c.handle.new.self c.args.outbox.now.sent c.handle.new.outbox.sent c.in-Ok.ensures.step top node journal before outcomes came)
 
 pub returns-in-Err-clause-same : goal.returns-in-Err-clause-same
@@ -17,7 +16,7 @@ returns-in-Err-clause-same c = shard_still c.args.shard.now c.handle.new.self c.
 
 pub returns-in-Ok-collect-clause-came : goal.returns-in-Ok-collect-clause-came
 returns-in-Ok-collect-clause-came c top node journal before outcomes came =
-    subst (λ x. CameFrom top node (journal ++ x ∷ []) (followed_by before c.args.outbox.now.sent) outcomes (actor.Shard c.collect.new.self)) (sym c.in-Collect.is)
+    subst (λ x. CameFrom top node (journal ++ x ∷ []) (before ++ c.args.outbox.now.sent) outcomes (actor.Shard c.collect.new.self)) (sym c.in-Collect.is)
     (shard_collected c.in-Collect.time c.args.shard.now c.collect.new.self c.args.outbox.now.sent c.in-Ok-collect.ensures.step top node journal before outcomes came)
 
 pub returns-in-Err-clause-refused : goal.returns-in-Err-clause-refused

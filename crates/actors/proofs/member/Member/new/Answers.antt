@@ -10,5 +10,5 @@ returns-clause-past g c =
       taken = c.in_ok-machine.ensures.untaken;
       accepted = refl;
       clocked = refl;
-      shown = shown_empty g.M.Machine.came_from c.args.topology.now c.args.node _ c.in_ok-machine.machine (λ to. refl) came;
+      shown = shown_empty g.M.Machine.came_from c.args.topology.now c.args.node c.in_ok-machine.machine came;
     }

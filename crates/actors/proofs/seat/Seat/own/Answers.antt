@@ -1,6 +1,6 @@
 use Rattle.std.proofs.Common.{refl}
 use Rattle.actors.specs.Seats.{through}
-use Rattle.actors.proofs.Seating.{kept_did, has_done}
+use Rattle.actors.proofs.Seating.{kept_did, has_done, accepted_so}
 use Rattle.actors.proofs.Refusing.{is_refusal}
 use Rattle.actors.proofs.seat.Seat.own.Goals as goal
 
@@ -21,3 +21,15 @@ returns-clause-refused g c =
     let s = c.self.inside in
     is_refusal g.M.Machine.refuses c.args.self.now c.args.event c.happen.result (rw (← c.self.view_is) c.happen.ensures.full)
     (rw (← c.self.view_is) (c.happen.ensures.fault s.topology s.node (through s.outgoing) c.self.invariant.recorded))
+
+pub returns-clause-number : goal.returns-clause-number
+returns-clause-number g c =
+    let s = c.self.inside in
+    rw (← c.self.view_is) (c.happen.ensures.number s.topology s.node (through s.outgoing) c.self.invariant.recorded)
+
+pub returns-clause-accepted : goal.returns-clause-accepted
+returns-clause-accepted g c =
+    let s = c.self.inside in
+    let r = c.self.invariant.recorded in
+    accepted_so g.M.Machine.came_from g.M.Machine.untaken c.happen.result s.topology s.node (through s.outgoing) c.happen.new.self.machine _ _ _ _ _ _
+    (c.happen.ensures.recorded s.topology s.node (through s.outgoing) r) (c.happen.ensures.refused s.topology s.node (through s.outgoing) r)

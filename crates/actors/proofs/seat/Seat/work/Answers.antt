@@ -79,7 +79,7 @@ returns-in-Ok-reserve-clause-ok g c =
       refusals =
           rw (← c.self.view_is)
           (c.push_reserved.ensures.items ∙ ap (λ (l : List (ℕ × Fault)). l ++ (c.happen.new.self.accepted, c.in-Err.fault) ∷ []) kept
-          ∙ ap (λ (n : ℕ). s.refusals.items ++ (n, c.in-Err.fault) ∷ []) (c.in-Err.ensures.same.3 ∙ inv.recorded.accepted));
+          ∙ ap (λ (n : ℕ). s.refusals.items ++ (n, c.in-Err.fault) ∷ []) (c.in-Err.ensures.same.3 ∙ inv.recorded.past.accepted));
       request = request;
       topology = rw (← c.self.view_is) refl;
       node = rw (← c.self.view_is) refl;
