@@ -23,10 +23,18 @@ use Rattle.site.specs.Story.{Story, Happening, Did, Given, journal, arrivals, ha
 abbrev pub goes_on : SiteValue → Happening → SiteValue
 goes_on site h = record site { story = site.story ++ h ∷ [] }
 
+-- the clock of an actor after these events, by them alone, and 2^48 where that is above
+abbrev pub clock_by : List ActorEvent → ℕ
+clock_by events = min (clock_from 0 events) (2 ^ 48)
+
+-- the clock of the actor with a node
+abbrev pub clock_in : Story → ℕ → ℕ
+clock_in s node = clock_by (journal s node)
+
 -- whether envelopes are from the actor with a node, and carry its clock after this journal
 abbrev pub are_of : ℕ → List ActorEvent → List Envelope → Bool
 are_of node events sends =
-    list_all (λ (e : Envelope). e.from == node) sends && list_all (λ (e : Envelope). e.time == min (clock_from 0 events) (2 ^ 48)) sends
+    list_all (λ (e : Envelope). e.from == node) sends && list_all (λ (e : Envelope). e.time == clock_by events) sends
 
 -- what the event sent is of its actor
 abbrev pub is_sound : Story → ℕ → ActorEvent → List Envelope → Bool

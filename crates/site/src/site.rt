@@ -7,7 +7,7 @@ ghost use Rattle.messages.specs.declared.event.ActorEvent.TheVariants.{Submit, C
 ghost use Rattle.site.specs.Story.{Heard};
 ghost use Rattle.site.specs.Story.{is_here as keeps_actor, may_come as may_come_from};
 ghost use Rattle.site.specs.Sites.{IsStory, IsSound};
-ghost use Rattle.site.specs.Turns.{goes_on, turn_of as turn_that_ended, HasDone, HasSubmitted, HasTurned, HasGiven, IsRefused, IsTurnRefused};
+ghost use Rattle.site.specs.Turns.{goes_on, clock_in, turn_of as turn_that_ended, HasDone, HasSubmitted, HasTurned, HasGiven, IsRefused, IsTurnRefused};
 
 use crate::kept::Kept;
 use crate::opening::{close_members, open_members};
@@ -301,6 +301,17 @@ impl<M: Machine> Site<M> {
     {
         self.kept.topology.session_of(node).is_some()
             && is_here(&self.kept.topology, self.kept.dc, node)
+    }
+
+    /// The clock of an actor, by its events alone, and 2^48 where that is above. That it is here is the caller's condition.
+    pub fn clock_of(&self, node: Node) -> u64
+        requires { keeps_actor self.now.top self.now.dc node ≡ true }
+        ensures { result ≡ clock_in self.now.story node }
+    {
+        match &self.kept.members[usize::from(node.get())] {
+            Some(member) => member.clock,
+            None => unreachable!(),
+        }
     }
 
     /// Ends the site, and gives up what isn't finished.

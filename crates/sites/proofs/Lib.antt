@@ -3,3 +3,5 @@ pub mod Fits
 pub mod Senders
 pub mod Stories
 pub mod Meant
+pub mod Same
+pub mod Again

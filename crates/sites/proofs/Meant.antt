@@ -22,7 +22,7 @@ use Rattle.threaded.specs.Machines.{as_finished}
 use Rattle.service.specs.Meaning.{IsMeant}
 use Rattle.service.proofs.Meant.{entry_means}
 use Rattle.site.specs.Story.{Story, is_here, journal, outcomes}
-use Rattle.site_port.specs.Ends.{op_at, HasEnded}
+use Rattle.site.specs.Ends.{op_at, HasEnded}
 use Rattle.sites.specs.Sites.{IsSiteStory, HasStory, journals_of}
 use Rattle.sites.proofs.Alone.{entries_are}
 use Rattle.sites.proofs.Senders.{here_is}

@@ -11,7 +11,7 @@ use Rattle.messages.specs.declared.outcome.Outcome.{Outcome}
 use Rattle.messages.specs.declared.event.ActorEvent.{ActorEvent}
 use Rattle.messages.specs.declared.event.ActorEvent.TheVariants.{Handle}
 use Rattle.messages.specs.Topology.{TopologyValue, node_count}
-use Rattle.actors.specs.Machines.{IsRecorded}
+use Rattle.actors.specs.Machines.{IsPast}
 use Rattle.threaded.specs.declared.actor.Actor.{Actor}
 use Rattle.threaded.specs.Machines.{CameFrom, untaken_of}
 use Rattle.site.specs.Story as story
@@ -36,7 +36,7 @@ pub record HasMachine (top : TopologyValue) (s : Story) (node : ℕ) : Type 0 wh
   pub machine : Actor
   pub count : ℕ
   pub clock : ℕ
-  pub recorded : IsRecorded CameFrom untaken_of top node (λ to. []) machine (journal s node) (outcomes s node) (sent s node) count clock true
+  pub recorded : IsPast CameFrom untaken_of top node machine (journal s node) (outcomes s node) (sent s node) count clock true
 
 module _ (top : TopologyValue) (dc : ℕ) (s : Story) (is : IsSiteStory top dc s) where
   now : IsMoment CameFrom untaken_of top dc s
@@ -50,13 +50,13 @@ module _ (top : TopologyValue) (dc : ℕ) (s : Story) (is : IsSiteStory top dc s
   machine_of node here =
       let t = is.1.timed node here in
       let m = t.0 in
-      let at_node : IsRecorded CameFrom untaken_of top node (λ to. []) m.machine (journal s node) (outcomes s node) (sent s node) m.accepted m.clock m.timed =
-      subst (λ n. IsRecorded CameFrom untaken_of top n (λ to. []) m.machine (journal s node) (outcomes s node) (sent s node) m.accepted m.clock m.timed) t.1.0 t.1.1 in
+      let at_node : IsPast CameFrom untaken_of top node m.machine (journal s node) (outcomes s node) (sent s node) m.accepted m.clock m.timed =
+      subst (λ n. IsPast CameFrom untaken_of top n m.machine (journal s node) (outcomes s node) (sent s node) m.accepted m.clock m.timed) t.1.0 t.1.1 in
       record {
         machine = m.machine;
         count = m.accepted;
         clock = m.clock;
-        recorded = subst (λ b. IsRecorded CameFrom untaken_of top node (λ to. []) m.machine (journal s node) (outcomes s node) (sent s node) m.accepted m.clock b) t.2 at_node;
+        recorded = subst (λ b. IsPast CameFrom untaken_of top node m.machine (journal s node) (outcomes s node) (sent s node) m.accepted m.clock b) t.2 at_node;
       }
 
   each_of : {X : Type 0} (p : X → Bool) (xs : List X) (x : X) → list_all p xs ≡ true → Contains xs x → p x ≡ true
@@ -86,10 +86,9 @@ module _ (top : TopologyValue) (dc : ℕ) (s : Story) (is : IsSiteStory top dc s
       let f = from_its n x sends ended e has in_sends in
       record { here = subst (λ k. is_here top dc k ≡ true) (sym f.0) f.1.0; sent = subst (λ k. Contains (story.sent s k) e) (sym f.0) f.1.1 }
 
-  -- what was given is from an actor here
-  pub given_own : (e : Envelope) → Contains (story.given s) e → IsOwn e
-  given_own e has =
-      let left : Contains (story.departures top dc s) e = subst (λ l. Contains l e) (sym now.gives.1) (Contains-append_left (story.given s) now.gives.0 e has) in
+  -- what was sent to other sites is from an actor here
+  pub departure_own : (e : Envelope) → Contains (story.departures top dc s) e → IsOwn e
+  departure_own e left =
       let p = flat_contains (departures_by top dc) s e left in
       by p.0 p.1 p.2
     where

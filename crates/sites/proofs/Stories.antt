@@ -1,6 +1,6 @@
 -- Stories of sites that meet are those of a run, and what they answered is the protocol's.
-use Rattle.std.proofs.Common.{◌≡◌, ◌∙◌, ℕ, ◌*◌, ◌<◌, ◌≤◌, Bool, true, false, List, [], ◌++◌, map, Some, refl, sym, ap, subst, arith, inl, inr, eq-eqb}
-use Rattle.std.specs.Prelude.{◌==◌, if◌then◌else◌, nat_lt, option_to_list, Contains, IsPermutation}
+use Rattle.std.proofs.Common.{◌≡◌, ◌∙◌, ℕ, ◌*◌, ◌<◌, ◌≤◌, Bool, true, false, List, [], ◌++◌, map, Some, refl, sym, ap, subst, arith, inl, inr}
+use Rattle.std.specs.Prelude.{if◌then◌else◌, nat_lt, option_to_list, Contains, IsPermutation}
 use Rattle.std.proofs.lemmas.Bool.Decides.{nat_tests}
 use Rattle.std.proofs.lemmas.List.{append-nil}
 use Rattle.std.proofs.lemmas.Nat.{div-add-mod'}
@@ -18,11 +18,10 @@ use Rattle.messages.specs.Topology.{TopologyValue, is_topology, is_shard, is_ses
 use Rattle.messages.specs.Session.{Finished}
 use Rattle.messages.specs.Actors.{opening_home, Replayed, replay_of, sent_by, outcomes_by, finished_in}
 use Rattle.client.specs.State.{finished_of}
-use Rattle.actors.specs.Journals.{sends_to}
 use Rattle.actors.specs.Shown.{Shown, AreTimed}
 use Rattle.world.specs.Journals.{DoFit}
 use Rattle.world.specs.Threads.{op_numbered, history_by, home_by}
-use Rattle.world.proofs.lists.Members.{contains_filter, filter_contains, contains_map}
+use Rattle.world.proofs.lists.Members.{contains_map}
 use Rattle.world.proofs.envelopes.Addresses.{stands}
 use Rattle.world.proofs.steps.Moves.{session_node_counts}
 use Rattle.world.proofs.promised.Threaded.{show_one_table}
@@ -33,7 +32,7 @@ use Rattle.site.specs.Story as story
 use Rattle.site.specs.Story.{site_of, Story, is_here}
 use Rattle.sites.specs.Sites.{DoLive, DoMeet, journals_of, outcomes_of}
 use Rattle.sites.proofs.Fits.{DoShownFit, members_fit}
-use Rattle.sites.proofs.Senders.{HasMachine, machine_of, given_own, taken_of, IsTaken, is_here_of, here_is}
+use Rattle.sites.proofs.Senders.{HasMachine, machine_of, departure_own, taken_of, IsTaken, is_here_of, here_is}
 
 -- ## Each node has a site
 
@@ -94,7 +93,7 @@ module _ (top : TopologyValue) (stories : ℕ → Story) (ok : is_topology top.d
     pub its : s.journal ≡ journal node
     pub along : DidCome top node s
     pub timed : AreTimed s
-    pub sends : (to : ℕ) → sends_to to s.sent ≡ sends_to to (sent node)
+    pub sends : s.sent ≡ sent node
 
   shown_is : (node : ℕ) → node < node_count top → IsShownOf node (shown node)
   shown_is node lt = by (nat_lt node (node_count top)) refl
@@ -109,10 +108,7 @@ module _ (top : TopologyValue) (stories : ℕ → Story) (ok : is_topology top.d
 
   -- what was sent is shown
   sent_shown : (node : ℕ) (e : Envelope) → node < node_count top → Contains (sent node) e → Contains (shown node).sent e
-  sent_shown node e lt has =
-      let is = shown_is node lt in
-      let there = contains_filter (λ (z : Envelope). z.to == e.to) (sent node) e has (eq-eqb e.to e.to refl) in
-      (filter_contains (λ (z : Envelope). z.to == e.to) (shown node).sent e (subst (λ l. Contains l e) (sym (is.sends e.to)) there)).0
+  sent_shown node e lt has = subst (λ l. Contains l e) (sym (shown_is node lt).sends) has
 
   -- ## Where they meet
 
@@ -127,7 +123,7 @@ module _ (top : TopologyValue) (stories : ℕ → Story) (ok : is_topology top.d
           (h.0, subst (λ d. Contains (story.sent (stories d) e.from) e) (sym h.1) own.sent))
       | inr came ↦ (
           let g = meet (site_of top node) e (site_there top ok node) came.1 in
-          let own = given_own top (site_of top e.from) (stories (site_of top e.from)) (live (site_of top e.from) (site_there top ok e.from)) e g in
+          let own = departure_own top (site_of top e.from) (stories (site_of top e.from)) (live (site_of top e.from) (site_there top ok e.from)) e g in
           (came.0, own.sent))
     ]
 

@@ -9,7 +9,7 @@ use Rattle.world.specs.Run.{run}
 use Rattle.world.specs.Journals.{IsRunOf}
 use Rattle.service.specs.Meaning.{IsMeant}
 use Rattle.site.specs.Story.{Story, is_here}
-use Rattle.site_port.specs.Ends.{HasEnded}
+use Rattle.site.specs.Ends.{HasEnded}
 use Rattle.sites.specs.Sites.{HasStory}
 
 -- Each operation of the site's sessions that ended is, in each run whose journals have those of the site, an entry of its session's at

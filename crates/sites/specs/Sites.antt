@@ -5,7 +5,7 @@ use Rattle.messages.specs.declared.outcome.Outcome.{Outcome}
 use Rattle.messages.specs.declared.event.ActorEvent.{ActorEvent}
 use Rattle.messages.specs.Topology.{TopologyValue}
 use Rattle.threaded.specs.Machines.{CameFrom, untaken_of}
-use Rattle.site.specs.Story.{Story, site_of, is_here, journal, outcomes, heard, given}
+use Rattle.site.specs.Story.{Story, site_of, is_here, journal, outcomes, heard, departures}
 use Rattle.site.specs.Sites.{IsStory, IsSound}
 
 -- ## One site
@@ -24,10 +24,12 @@ HasStory top dc s journals = (node : ℕ) → is_here top dc node ≡ true → j
 abbrev pub DoLive : TopologyValue → (ℕ → Story) → Type 0
 DoLive top stories = (dc : ℕ) → dc < top.dcs → IsSiteStory top dc (stories dc)
 
--- The network: what came to a site was given by the site of the actor that it is from. It may have come late, again, in another
--- order, or not at all.
+-- The network: what came to a site was sent to other sites by an actor of the site of the one that it is from. It may have come late,
+-- again, in another order, or not at all.
 abbrev pub DoMeet : TopologyValue → (ℕ → Story) → Type 0
-DoMeet top stories = (dc : ℕ) (e : Envelope) → dc < top.dcs → Contains (heard (stories dc)) e → Contains (given (stories (site_of top e.from))) e
+DoMeet top stories =
+    (dc : ℕ) (e : Envelope) → dc < top.dcs → Contains (heard (stories dc)) e
+    → Contains (departures top (site_of top e.from) (stories (site_of top e.from))) e
 
 -- the journal of each actor, by the story of its site
 abbrev pub journals_of : TopologyValue → (ℕ → Story) → ℕ → List ActorEvent

@@ -17,9 +17,10 @@ ghost use Rattle.world.specs.Run.{run};
 ghost use Rattle.world.specs.Journals.{IsRunOf, ended_at};
 ghost use Rattle.site.specs.Story.{Story, is_here, journal, outcomes};
 ghost use Rattle.sites.specs.Answers.{AnswersAreMeant};
+ghost use Rattle.sites.specs.Again.{HasComeBack, StayApart, GoesOnFrom, HaveComeBack, DoMeetSince};
 ghost use Rattle.sites.specs.Sites.{IsSiteStory, HasStory, DoLive, DoMeet, journals_of, outcomes_of};
 
-/// Where what came to each site was given by the site of its sender, the journals of all sites fit together, and are those of a
+/// Where what came to each site was sent by an actor of its sender's site, the journals of all sites fit together, and are those of a
 /// run: whatever was repeated, reordered or lost between them. Does nothing; its contract is the law.
 pub fn sites_are_a_run()
     ensures fit { (top : TopologyValue) (stories : ℕ → Story) → is_topology top.dcs top.shards top.homes ≡ true → DoLive top stories → DoMeet top stories → DoFit top (journals_of top stories) }
@@ -59,10 +60,37 @@ pub fn one_site_is_right()
 {}
 
 /// What a site answered is meant: each operation of its sessions that ended is an entry of each run that has its journals, and means
-/// its request there (`alone`). Where what came to each site was given by the site of its sender, the journals of all sites are those
+/// its request there (`alone`). Where what came to each site was sent by an actor of its sender's site, the journals of all sites are those
 /// of a run (`together`). Does nothing; its contract is the law.
 pub fn answers_of_sites()
     ensures alone { (top : TopologyValue) (dc : ℕ) (s : Story) → IsSiteStory top dc s → AnswersAreMeant top dc s }
     ensures together { (top : TopologyValue) (stories : ℕ → Story) → is_topology top.dcs top.shards top.homes ≡ true → DoLive top stories → DoMeet top stories
         → (dc : ℕ) → dc < top.dcs → HasStory top dc (stories dc) (journals_of top stories) × IsThreadedRun top (journals_of top stories) }
+{}
+
+/// A site that does its steps again comes to the same story, but for what it gives to the ways to other sites: where the stamps of the
+/// first story stay apart. So it is once all are done, and whatever it did then (`back`), and on the way there (`way`). Does nothing; its
+/// contract is the law.
+pub fn same_steps_same_story()
+    ensures back { (top : TopologyValue) (dc : ℕ) (s t : Story) → IsSiteStory top dc s → IsSiteStory top dc t → StayApart top dc s → HasComeBack s t → GoesOnFrom top dc s t }
+    ensures way { (top : TopologyValue) (dc : ℕ) (s t : Story) → IsSiteStory top dc s → IsSiteStory top dc t → StayApart top dc s → HasComeBack t s → GoesOnFrom top dc t s }
+{}
+
+/// One site by itself: where its journals are of some journals that fit, as in each run, it goes on from where it was once it has come
+/// back; and on the way there its story is one of which the first goes on. Does nothing; its contract is the law.
+pub fn one_site_comes_back()
+    ensures back { (top : TopologyValue) (dc : ℕ) (s t : Story) (journals : ℕ → List ActorEvent) → IsSiteStory top dc s → HasStory top dc s journals → DoFit top journals
+        → IsSiteStory top dc t → HasComeBack s t → GoesOnFrom top dc s t }
+    ensures way { (top : TopologyValue) (dc : ℕ) (s t : Story) (journals : ℕ → List ActorEvent) → IsSiteStory top dc s → HasStory top dc s journals → DoFit top journals
+        → IsSiteStory top dc t → HasComeBack t s → GoesOnFrom top dc t s }
+{}
+
+/// All sites: where they met, any number of them came back, and what came later was sent by an actor of its sender's site, they meet
+/// (`meet`). So all that is promised of sites that meet is promised of them; and each goes on from where it was (`on`). Does nothing; its
+/// contract is the law.
+pub fn sites_come_back()
+    ensures on { (top : TopologyValue) (before after : ℕ → Story) → is_topology top.dcs top.shards top.homes ≡ true → DoLive top before → DoMeet top before
+        → DoLive top after → HaveComeBack top before after → (dc : ℕ) → dc < top.dcs → GoesOnFrom top dc (before dc) (after dc) }
+    ensures meet { (top : TopologyValue) (before after : ℕ → Story) → is_topology top.dcs top.shards top.homes ≡ true → DoLive top before → DoMeet top before
+        → DoLive top after → HaveComeBack top before after → DoMeetSince top before after → DoMeet top after }
 {}
