@@ -1,136 +1,24 @@
 -- A request, from its start to its answer.
-use Rattle.std.proofs.Common.{◌≡◌, ◌∙◌, ℕ, zero, suc, ◌⊎◌, Bool, true, false, List, [], ◌∷◌, ◌++◌, length, slice_get, Option, Some, None, inl, inr, refl, sym, ap, subst, arith, add-one, length-append, eq-eqb, eqb-true}
-use Rattle.std.specs.Prelude.{◌&&◌, ◌==◌, All, filter_map, get_or, slice_set, Contains, Result, Ok, Err, OnOk}
-use Rattle.std.proofs.lemmas.List.Elements.{All-nil, All-cons, All-append}
-use Rattle.std.proofs.Math.ListN.{get_or-append}
-use Rattle.std.proofs.lemmas.Option.{slice_get_within, get_or_from_slice_get}
+use Rattle.std.proofs.Common.{◌≡◌, ◌∙◌, ℕ, suc, ◌⊎◌, List, [], ◌∷◌, ◌++◌, length, slice_get, Option, Some, None, inl, inr, refl, sym, ap, subst, add-one, eq-eqb}
+use Rattle.std.specs.Prelude.{filter_map, slice_set, Contains, Result, Ok, Err, OnOk}
 use Rattle.logical_time.specs.declared.fault.Fault.{Fault}
-use Rattle.logical_time.specs.declared.fault.Fault.TheVariants.{Busy, Memory}
+use Rattle.logical_time.specs.declared.fault.Fault.TheVariants.{Busy}
 use Rattle.messages.specs.declared.op.Op.{Op}
 use Rattle.messages.specs.declared.outcome.Outcome.{Outcome}
 use Rattle.messages.specs.declared.event.ActorEvent.{ActorEvent}
 use Rattle.messages.specs.declared.event.ActorEvent.TheVariants.{Submit}
 use Rattle.actors.specs.Journals.{op_in, submissions}
 use Rattle.actors.specs.Machines.{Refuses}
-use Rattle.site.specs.Story.{Story, Happening, Did, Heard, Given, event_of, journal, outcomes}
+use Rattle.site.specs.Story.{Story, Happening, Did, event_of, journal, outcomes}
 use Rattle.site.specs.Sites.{SiteValue}
-use Rattle.site.specs.Turns.{IsRefused, IsTurnRefused}
 use Rattle.site.proofs.Lists.{get_set, get_elsewhere, same_or_not, mapped_more}
 use Rattle.site_port.specs.declared.waiting.Late.{Late}
 use Rattle.site_port.specs.declared.waiting.Waiting.{Waiting}
-use Rattle.site_port.specs.Ends.{op_at, end_by, end_in, ends_in, IsHandling, GoesOnWith, AreTold}
-use Rattle.site_port.specs.Port.{PortValue, sessions_of, HasSubmittedAs, HasBegun, IsAnswer, IsTaken, IsDoing, AreEnds, Holds}
-use Rattle.site_port.proofs.Growing.{op_at_on, ends_on, ends_after, ends_right, holds_on}
-use Rattle.site_port.proofs.Turning.{goes_same, goes_then}
-
--- ## Lists
-
-pub get_mid : {X : Type 0} (xs : List X) (y : X) (ys : List X) → slice_get (xs ++ y ∷ ys) (length xs) ≡ Some y
-get_mid [] y ys = refl
-get_mid (x ∷ xs) y ys = get_mid xs y ys
-
-pub all_at : {X : Type 0} (P : X → Type 0) (xs : List X) (n : ℕ) (y : X) → slice_get xs n ≡ Some y → All P xs → P y
-all_at P xs n y at all = subst P (get_or_from_slice_get xs n y y at) (all n y (slice_get_within xs n y at))
-
-pub all_first : {X : Type 0} (P : X → Type 0) (xs ys : List X) → All P (xs ++ ys) → All P xs
-all_first P xs ys all = λ k d lt. subst P (get_or-append xs ys d k lt) (all k d (grind (arith, length-append, lt)))
-
-pub all_rest : {X : Type 0} (P : X → Type 0) (xs ys : List X) → All P (xs ++ ys) → All P ys
-all_rest P [] ys all = all
-all_rest P (x ∷ xs) ys all = all_rest P xs ys (λ k d lt. all (suc k) d (omega arith))
-
-pub length_set : {X : Type 0} (xs : List X) (i : ℕ) (y : X) → length (slice_set xs i y) ≡ length xs
-length_set [] i y = refl
-length_set (x ∷ xs) zero y = refl
-length_set (x ∷ xs) (suc i) y = ap suc (length_set xs i y)
-
--- what was taken from a place is put back
-pub set_back : {X : Type 0} (xs : List X) (i : ℕ) (y z : X) → slice_get xs i ≡ Some z → slice_set (slice_set xs i y) i z ≡ xs
-set_back [] i y z at = refl
-set_back (x ∷ xs) zero y z at = (let same : x ≡ z = cc in ap (λ w. w ∷ xs) (sym same))
-set_back (x ∷ xs) (suc i) y z at = ap (λ l. x ∷ l) (set_back xs i y z at)
-
-and_both : (a b : Bool) → (a && b) ≡ true → (a ≡ true) × (b ≡ true)
-and_both true b q = (refl, q)
-and_both false b q = absurd (cc)
-
--- ## How the story goes on
-
-abbrev pub WentOn : SiteValue → SiteValue → Type 0
-WentOn a b = (happened : List Happening) × All IsDoing happened × GoesOnWith a happened b
-
-pub went_same : (a b : SiteValue) → b ≡ a → WentOn a b
-went_same a b same = subst (λ z. WentOn a z) (sym same) ([], All-nil IsDoing, goes_same a)
-
-pub went_then : (a b c : SiteValue) → WentOn a b → WentOn b c → WentOn a c
-went_then a b c (xs, f, g) (ys, h, k) = (xs ++ ys, All-append IsDoing xs ys f h, goes_then a b c xs ys g k)
-
-did_one : (a b : SiteValue) (h : Happening) → IsDoing h → GoesOnWith a (h ∷ []) b → WentOn a b
-did_one a b h doing g = (h ∷ [], All-cons IsDoing h [] doing (All-nil IsDoing), g)
-
-pub refused_went : (refuses : Refuses) (a b : SiteValue) (node : ℕ) (x : ActorEvent) (fault : Fault) → IsRefused refuses a node x fault b → WentOn a b
-refused_went refuses a b node x fault (inl (same, why)) = went_same a b same
-refused_went refuses a b node x fault (inr (sound, (is, (sends, ended, broken, now)))) =
-    did_one a b (Did node x sends ended) tt
-    (subst (λ z. GoesOnWith a (Did node x sends ended ∷ []) z) (sym now) (record { topology = refl; dc = refl; story = refl; sound = λ q. sound }))
-
-pub turn_refused_went : (refuses : Refuses) (a b : SiteValue) (fault : Fault) → IsTurnRefused refuses a fault b → WentOn a b
-turn_refused_went refuses a b fault (inl (same, why)) = went_same a b same
-turn_refused_went refuses a b fault (inr (e, first, r)) = refused_went refuses a b _ _ fault r
-
-pub declined_went : (refuses : Refuses) (a b : SiteValue) (node : ℕ) (x : ActorEvent) (fault : Fault) → ((fault ≡ Memory) × (b ≡ a)) ⊎ IsRefused refuses a node x fault b → WentOn a b
-declined_went refuses a b node x fault (inl (is, same)) = went_same a b same
-declined_went refuses a b node x fault (inr r) = refused_went refuses a b node x fault r
-
-doing_of : (h : Happening) → IsHandling h → IsDoing h
-doing_of (Did node x sends ended) p = tt
-doing_of (Heard from e) p = absurd p
-doing_of (Given e) p = absurd p
-
-all_doing : (hs : List Happening) → All IsHandling hs → All IsDoing hs
-all_doing hs all = λ k d lt. doing_of (get_or hs k d) (all k d lt)
-
-pub op_went : (a b : SiteValue) (node number : ℕ) (o : Op) → WentOn a b → op_at a.story node number ≡ Some o → op_at b.story node number ≡ Some o
-op_went a b node number o (hs, doing, g) at = subst (λ s. op_at s node number ≡ Some o) (sym g.story) (op_at_on a.story hs node number o at)
-
-pub ends_went : (a b : SiteValue) (late : List Late) → WentOn a b → AreEnds a.story late → AreEnds b.story late
-ends_went a b late (hs, doing, g) e = subst (λ s. AreEnds s late) (sym g.story) (ends_on a.story hs late e)
-
-pub holds_went : (a b : SiteValue) (sessions : List ℕ) (waits : List (Option Waiting)) (late kept : List Late) → WentOn a b → Holds a sessions waits late → AreEnds b.story kept → Holds b sessions waits kept
-holds_went a b sessions waits late kept (hs, doing, g) h e = holds_on a b hs sessions waits late kept h g e
-
-pub session_went : (a b : SiteValue) (place node : ℕ) → WentOn a b → slice_get (sessions_of a.top a.dc) place ≡ Some node → slice_get (sessions_of b.top b.dc) place ≡ Some node
-session_went a b place node (hs, doing, g) at =
-    subst (λ t. slice_get (sessions_of t b.dc) place ≡ Some node) (sym g.topology) (subst (λ d. slice_get (sessions_of a.top d) place ≡ Some node) (sym g.dc) at)
-
--- ## Ends
-
-abbrev IsIn : Story → Late → Type 0
-IsIn s l = Contains (outcomes s l.session) (l.number, l.outcome)
-
-kept_well : (s : Story) (awaited : Option (ℕ × ℕ)) (ends late : List Late) (told : Option Outcome) (kept : List Late) → AreEnds s late → AreEnds s ends → AreTold awaited ends late told kept → AreEnds s kept
-kept_well s awaited ends late None kept l e (is, none) = subst (λ z. AreEnds s z) (sym is) (All-append (IsIn s) late ends l e)
-kept_well s awaited ends late (Some outcome) kept l e (before, last, is, aw, same, now) =
-    subst (λ z. AreEnds s z) (sym now) (All-append (IsIn s) late before l (all_first (IsIn s) before (last ∷ []) (subst (λ z. AreEnds s z) is e)))
-
-told_well : (s : Story) (node number : ℕ) (ends late : List Late) (outcome : Outcome) (kept : List Late) → AreEnds s ends → AreTold (Some (node, number)) ends late (Some outcome) kept → Contains (outcomes s node) (number, outcome)
-told_well s node number ends late outcome kept e (before, last, is, aw, same, now) =
-    let at = all_at (IsIn s) (before ++ last ∷ []) (length before) last (get_mid before last []) (subst (λ z. AreEnds s z) is e) in
-    let both = and_both (last.session == node) (last.number == number) aw in
-    subst (λ r. Contains (outcomes s node) (number, r)) same
-    (subst (λ m. Contains (outcomes s node) (m, last.outcome)) (eqb-true last.number number both.1)
-    (subst (λ n. Contains (outcomes s n) (last.number, last.outcome)) (eqb-true last.session node both.0) at))
-
-module _ (a b : SiteValue) (hs : List Happening) (g : GoesOnWith a hs b) where
-  told_ends : (awaited : Option (ℕ × ℕ)) (late : List Late) (told : Option Outcome) (kept : List Late) → AreTold awaited (ends_in hs) late told kept → AreEnds a.story late → AreEnds b.story kept
-  told_ends awaited late told kept t e =
-      subst (λ s. AreEnds s kept) (sym g.story)
-      (kept_well (a.story ++ hs) awaited (ends_in hs) late told kept (ends_on a.story hs late e) (ends_after a.story hs (ends_in hs) (ends_right hs)) t)
-
-  told_its : (node number : ℕ) (late : List Late) (outcome : Outcome) (kept : List Late) → AreTold (Some (node, number)) (ends_in hs) late (Some outcome) kept → Contains (outcomes b.story node) (number, outcome)
-  told_its node number late outcome kept t =
-      subst (λ s. Contains (outcomes s node) (number, outcome)) (sym g.story)
-      (told_well (a.story ++ hs) node number (ends_in hs) late outcome kept (ends_after a.story hs (ends_in hs) (ends_right hs)) t)
+use Rattle.site.specs.Ends.{op_at}
+use Rattle.site_port.specs.Ends.{end_by, end_in, ends_in, GoesOnWith, AreTold}
+use Rattle.site_port.specs.Port.{PortValue, HasSubmittedAs, HasBegun, IsAnswer, IsTaken, AreEnds, Holds}
+use Rattle.site_port.proofs.Lists.{get_mid, length_set}
+use Rattle.site_port.proofs.Going.{WentOn, went_then, did_one, op_went, told_ends, told_its, turns_went, turns_ends, stopped_went, stopped_ends}
 
 -- ## The submission
 
@@ -193,26 +81,23 @@ begun refuses node a o number late (Ok told) b kept (inr (between, ends, s, t)) 
     record {
       on = went_then a between b (submit_went node a o number late None between ends s) on_turns;
       op = op_went between b node number o on_turns (submit_op node a o number late None between ends s);
-      ends = λ e. told_ends between b t.happened t.went (Some (node, number)) ends told kept t.is_told (submit_ends node a o number late None between ends s e);
+      ends = λ e. turns_ends (Some (node, number)) 1000000 between b ends kept told t (submit_ends node a o number late None between ends s e);
       its = λ outcome q. told_its between b t.happened t.went node number ends outcome kept
           (subst (λ r. AreTold (Some (node, number)) (ends_in t.happened) ends r kept) (same_told told outcome q) t.is_told);
     }
   where
     on_turns : WentOn between b
-    on_turns = (t.happened, all_doing t.happened t.handled, t.went)
+    on_turns = turns_went (Some (node, number)) 1000000 between b ends kept told t
 begun refuses node a o number late (Err fault) b kept (between, ends, s, t) =
     record {
       on = went_then a between b (submit_went node a o number late None between ends s) on_turns;
       op = op_went between b node number o on_turns (submit_op node a o number late None between ends s);
-      ends = λ e. ends_went t.between b kept refused (told_ends between t.between t.happened t.went (Some (node, number)) ends None kept t.told (submit_ends node a o number late None between ends s e));
+      ends = λ e. stopped_ends refuses (Some (node, number)) between b ends kept fault t (submit_ends node a o number late None between ends s e);
       its = λ outcome q. absurd (not_both fault outcome q);
     }
   where
-    refused : WentOn t.between b
-    refused = turn_refused_went refuses t.between b fault t.refused
-
     on_turns : WentOn between b
-    on_turns = went_then between t.between b (t.happened, all_doing t.happened t.handled, t.went) refused
+    on_turns = stopped_went refuses (Some (node, number)) between b ends kept fault t
 
 -- ## What is open at a place
 

@@ -12,7 +12,8 @@ use Rattle.site.specs.Story.{Story, Happening, Did, Heard, Given, event_of, end_
 use Rattle.site.specs.Sites.{SiteValue}
 use Rattle.site_port.specs.declared.waiting.Late.{Late}
 use Rattle.site_port.specs.declared.waiting.Waiting.{Waiting}
-use Rattle.site_port.specs.Ends.{op_at, HasEnded, end_in, ends_in, GoesOnWith}
+use Rattle.site.specs.Ends.{op_at, HasEnded}
+use Rattle.site_port.specs.Ends.{end_in, ends_in, GoesOnWith}
 use Rattle.site_port.specs.Port.{sessions_of, AreEnds, Holds}
 
 get_more : {X : Type 0} (xs ys : List X) (n : ℕ) (x : X) → slice_get xs n ≡ Some x → slice_get (xs ++ ys) n ≡ Some x

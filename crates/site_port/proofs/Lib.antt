@@ -2,6 +2,8 @@ pub mod Lists
 pub mod Turning
 pub mod Growing
 pub mod Places
+pub mod Going
 pub mod Kept
+pub mod Collections
 pub mod Begun
 pub mod Serving

@@ -12,9 +12,11 @@ use Rattle.site.specs.Story.{Story, outcomes}
 use Rattle.site.specs.Sites.{SiteValue}
 use Rattle.site_port.specs.declared.waiting.Late.{Late}
 use Rattle.site_port.specs.declared.waiting.Waiting.{Waiting}
-use Rattle.site_port.specs.Ends.{op_at}
+use Rattle.site.specs.Ends.{op_at}
 use Rattle.site_port.specs.Port.{PortValue, Asks, HasTaken, AsksAt, IsItsEnd, IsStep, AreEnds, Holds}
-use Rattle.site_port.proofs.Begun.{get_mid, all_at, all_first, all_rest, set_back, WentOn, went_same, holds_put}
+use Rattle.site_port.proofs.Lists.{get_mid, all_at, all_first, all_rest, set_back}
+use Rattle.site_port.proofs.Going.{WentOn, went_same}
+use Rattle.site_port.proofs.Begun.{holds_put}
 
 -- ## What is there
 

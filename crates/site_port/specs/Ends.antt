@@ -2,27 +2,15 @@
 use Rattle.std.specs.Prelude.{◌≡◌, ◌==◌, ◌&&◌, ◌⊎◌, ℕ, zero, suc, Bool, true, false, List, [], ◌∷◌, ◌++◌, All, filter_map, length, slice_get, Option, Some, None, Contains}
 use Rattle.logical_time.specs.declared.fault.Fault.{Fault}
 use Rattle.messages.specs.declared.envelope.Envelope.{Envelope}
-use Rattle.messages.specs.declared.op.Op.{Op}
 use Rattle.messages.specs.declared.outcome.Outcome.{Outcome}
 use Rattle.messages.specs.declared.event.ActorEvent.TheVariants.{Handle}
-use Rattle.actors.specs.Journals.{op_in}
 use Rattle.actors.specs.Machines.{Refuses}
 use Rattle.site.specs.Story.{Story, Happening, Did, Heard, Given, journal, outcomes, arrivals, handled as handled_in}
 use Rattle.site.specs.Sites.{SiteValue}
 use Rattle.site.specs.Turns.{IsTurnRefused}
 use Rattle.site_port.specs.declared.waiting.Late.{Late}
 
--- ## Operations and their ends
-
--- the operation of a session with this number: the numbers are 1, 2, .. in the order of its journal
-abbrev pub op_at : Story → ℕ → ℕ → Option Op
-op_at s node zero = None
-op_at s node (suc n) = slice_get (filter_map op_in (journal s node)) n
-
--- the session submitted this operation as its one of this number, and it ended so
-pub record HasEnded (s : Story) (node number : ℕ) (o : Op) (result : Outcome) : Type 0 where
-  pub submitted : op_at s node number ≡ Some o
-  pub ended : Contains (outcomes s node) (number, result)
+-- ## Ends
 
 -- the end of an operation of this session, if an event ended one
 abbrev pub end_by : ℕ → Option (ℕ × Outcome) → Option Late

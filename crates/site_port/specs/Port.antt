@@ -17,7 +17,8 @@ use Rattle.site.specs.Sites.{SiteValue}
 use Rattle.site.specs.Turns.{goes_on, IsRefused}
 use Rattle.site_port.specs.declared.waiting.Late.{Late}
 use Rattle.site_port.specs.declared.waiting.Waiting.{Waiting}
-use Rattle.site_port.specs.Ends.{op_at, HasEnded, end_by, GoesOnWith, is_awaited, AreTold, HasTurns, HasStopped}
+use Rattle.site.specs.Ends.{op_at, HasEnded}
+use Rattle.site_port.specs.Ends.{end_by, GoesOnWith, is_awaited, AreTold, HasTurns, HasStopped}
 
 -- ## What it is
 

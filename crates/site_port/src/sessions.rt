@@ -4,15 +4,17 @@ ghost use Rattle.messages.specs.Topology.{is_topology};
 ghost use Rattle.site.specs.Story.{Happening, Heard, may_come};
 ghost use Rattle.site.specs.Turns.{goes_on, HasGiven};
 ghost use Rattle.site_port.specs.Ends.{GoesOnWith, HasTurns, HasStopped};
+ghost use Rattle.site_port.specs.Collecting.{clocks_of, HasCollected, HasBrokenOff};
 ghost use Rattle.site_port.specs.Port.{sessions_of, is_batch as writes, Asks, IsItsEnd, IsDoing};
 
 use crate::asking::{Begun, ask};
+use crate::collecting::{clocks_here, collect_all};
 use crate::recalling::take_end;
 use crate::turns::take_turns;
 use crate::waiting::{Late, Waiting};
 use actors::Machine;
 use equality::same_op;
-use logical_time::{Fault, Node};
+use logical_time::{Fault, Node, Time};
 use messages::{Envelope, Op, Outcome, Topology};
 use readiness::SharedPort;
 use site::Site;
@@ -129,6 +131,29 @@ impl<M: Machine> SiteSessions<M> {
     {
         let _none = take_turns(self.alloc, &mut self.site, &mut self.late, &None, most)?;
         Ok(())
+    }
+
+    /// The clocks of the shards that are here, in the order of their nodes; where one is spent, the last time that there is. Refused
+    /// with `Memory` alone.
+    pub fn clocks(&self) -> Result<Vec<Time>, Fault>
+        ensures clocks { IfOk result (λ list. list.items ≡ clocks_of self.now.site) }
+        ensures memory { IfErr result (λ e. e ≡ Fault.Memory) }
+    {
+        clocks_here(self.alloc, &self.site)
+    }
+
+    /// Each shard that is here, in the order of their nodes, collects up to the time at its index among these. One stays as it is
+    /// where it has none, where memory is refused, and where its machine refuses it. What a collection ended, which is nothing in each
+    /// run, is kept. Costs what the collections do. Refused with `StrangerEnd` where the site isn't sound, or is no longer; then the
+    /// rest stay as they are.
+    pub fn collect(&mut self, times: &[Time]) -> Result<(), Fault>
+        ensures collected { OnOk result (HasCollected times.now self.old.site self.old.late self.new.site self.new.late) }
+        ensures sound { OnOk result (self.old.site.sound ≡ true → self.new.site.sound ≡ true) }
+        ensures broken { OnErr result (HasBrokenOff times.now self.old.site self.old.late self.new.site self.new.late) }
+        ensures stranger { IfErr result (λ e. e ≡ Fault.StrangerEnd) }
+        ensures stays { (self.new.waiting ≡ self.old.waiting) × (self.new.behind ≡ self.old.behind) }
+    {
+        collect_all(self.alloc, &mut self.site, &mut self.late, times)
     }
 
     /// An envelope comes from the site of another data centre, as `Site::hear` says.

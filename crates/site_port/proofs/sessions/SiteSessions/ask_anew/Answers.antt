@@ -2,7 +2,8 @@ use Rattle.std.proofs.Common.{◌≡◌, slice_get, slice_set, Some, None, Ok, E
 use Rattle.messages.specs.declared.event.ActorEvent.TheVariants.{Submit}
 use Rattle.site_port.specs.Port.{PortValue, Holds, sessions_of}
 use Rattle.site_port.proofs.Places.{session_of_place}
-use Rattle.site_port.proofs.Begun.{WentOn, declined_went, begun, ends_went, holds_went, holds_put, session_went, taken_told, taken_busy, taken_fault, on_told, waits_right}
+use Rattle.site_port.proofs.Going.{WentOn, declined_went, ends_went, holds_went, session_went}
+use Rattle.site_port.proofs.Begun.{begun, holds_put, taken_told, taken_busy, taken_fault, on_told, waits_right}
 use Rattle.messages.specs.declared.op.Op.{Op}
 use Rattle.std.proofs.lemmas.Option.{slice_get_within}
 use Rattle.site_port.proofs.sessions.SiteSessions.ask_anew.Goals as goal
