@@ -1,6 +1,7 @@
 -- What passes between requests, one thing after the other.
 use Rattle.std.proofs.Common.{◌≡◌, ◌∙◌, ℕ, Bool, true, false, List, [], ◌∷◌, ◌++◌, Option, Some, None, ◌⊎◌, inl, inr, refl, sym, ap, subst, append_assoc, append-nil}
-use Rattle.std.specs.Prelude.{All, filter, filter_map, get_or}
+use Rattle.std.specs.Prelude.{All, filter, filter_map, get_or, IfSome}
+use Rattle.std.specs.Option.{unwrap_or}
 use Rattle.std.proofs.lemmas.List.Elements.{All-nil, All-cons, All-head, All-tail, All-append, filter_map-append, filter-append}
 use Rattle.logical_time.specs.declared.fault.Fault.{Fault}
 use Rattle.logical_time.specs.declared.fault.Fault.TheVariants.{Memory, StrangerEnd}
@@ -9,22 +10,26 @@ use Rattle.messages.specs.Topology.{TopologyValue}
 use Rattle.site.specs.Story.{Happening, Did, Heard, Given, site_of, may_come}
 use Rattle.site.specs.Sites.{SiteValue}
 use Rattle.site.specs.Turns.{goes_on, HasGiven}
-use Rattle.site_port.specs.Ends.{ends_in, IsHandling, HasTurns}
-use Rattle.site_port.specs.Port.{PortValue}
+use Rattle.site_port.specs.Ends.{ends_in, IsHandling, GoesOnWith, HasTurns}
+use Rattle.site_port.specs.Collecting.{clocks_of, IsCollection, HasCollected}
+use Rattle.site_port.specs.Port.{PortValue, IsDoing}
 use Rattle.site_port.proofs.Turning.{goes_same, goes_then, ends_then}
 use Rattle.ways.specs.Crossings.{Crossing, Sent, Came, Refused, Nothing, Crosses, sent_by, brought_by}
-use Rattle.hosting.specs.Rounds.{IsPassing, gift, receipt, Passes, Matches, HasPassed}
+use Rattle.hosting.specs.declared.marks.Marks.{Marks}
+use Rattle.hosting.specs.Rounds.{is_due, AreMarked, IsPassing, gift, receipt, Passes, Matches, HasPassed}
 
 -- ## Nothing, and one after the other
 
-pub passes_same : (p : PortValue) → Passes p [] p
-passes_same p = record { went = goes_same p.site; passing = All-nil IsPassing; waiting = refl; late = sym (append-nil p.late); behind = refl }
+passes_same : (times : List ℕ) (p : PortValue) → Passes times p [] p
+passes_same times p = record { went = goes_same p.site; passing = All-nil (IsPassing p.site.top p.site.dc times); waiting = refl; late = sym (append-nil p.late); behind = refl }
 
-pub passes_then : (p q r : PortValue) (xs ys : List Happening) → Passes p xs q → Passes q ys r → Passes p (xs ++ ys) r
-passes_then p q r xs ys f g =
+passes_then : (times : List ℕ) (p q r : PortValue) (xs ys : List Happening) → Passes times p xs q → Passes times q ys r → Passes times p (xs ++ ys) r
+passes_then times p q r xs ys f g =
+    let there : All (IsPassing p.site.top p.site.dc times) ys =
+    (subst (λ d. All (IsPassing p.site.top d times) ys) f.went.dc (subst (λ t. All (IsPassing t q.site.dc times) ys) f.went.topology g.passing)) in
     record {
       went = goes_then p.site q.site r.site xs ys f.went g.went;
-      passing = All-append IsPassing xs ys f.passing g.passing;
+      passing = All-append (IsPassing p.site.top p.site.dc times) xs ys f.passing there;
       waiting = g.waiting ∙ f.waiting;
       late = g.late ∙ (ap (λ l. l ++ ends_in ys) f.late ∙ (append_assoc p.late (ends_in xs) (ends_in ys) ∙ ap (λ l. p.late ++ l) (sym (ends_then xs ys))));
       behind = g.behind ∙ f.behind;
@@ -48,42 +53,79 @@ matches_then top dc xs ys cs ds f g =
           ∙ ap (filter (λ (r : ℕ × Envelope). may_come top dc r.0 r.1)) (sym (filter_map-append brought_by cs ds)))));
     }
 
-module _ {W : Type 0} (steps : W → Crossing → W → Type 0) where
-  pub passed_none : (p : PortValue) (w : W) → HasPassed steps p w p w
-  passed_none p w = record { happened = []; crossed = []; passed = passes_same p; crosses = refl; matches = record { gifts = refl; receipts = refl } }
+passes_anyhow : (top : TopologyValue) (dc : ℕ) (times : List ℕ) (h : Happening) → IsPassing top dc [] h → IsPassing top dc times h
+passes_anyhow top dc times (Did node x sends ended) (inl handling) = inl handling
+passes_anyhow top dc times (Did node x sends ended) (inr (shard, time, within, at, actor, is)) = absurd (none_some at)
+  where
+    none_some : None ≡ Some time → ⊥
+    none_some q = cc
+passes_anyhow top dc times (Heard from e) is = tt
+passes_anyhow top dc times (Given e) is = tt
 
-  pub passed_then : (p q r : PortValue) (u v w : W) → HasPassed steps p u q v → HasPassed steps q v r w → HasPassed steps p u r w
+module _ {W : Type 0} (steps : W → Crossing → W → Type 0) (times : List ℕ) where
+  pub passed_none : (p : PortValue) (w : W) → HasPassed steps times p w p w
+  passed_none p w = record { happened = []; crossed = []; passed = passes_same times p; crosses = refl; matches = record { gifts = refl; receipts = refl } }
+
+  pub passed_then : (p q r : PortValue) (u v w : W) → HasPassed steps times p u q v → HasPassed steps times q v r w → HasPassed steps times p u r w
   passed_then p q r u v w f g =
       let there : Matches p.site.top p.site.dc g.happened g.crossed =
       (subst (λ d. Matches p.site.top d g.happened g.crossed) f.passed.went.dc (subst (λ t. Matches t q.site.dc g.happened g.crossed) f.passed.went.topology g.matches)) in
       record {
         happened = f.happened ++ g.happened;
         crossed = f.crossed ++ g.crossed;
-        passed = passes_then p q r f.happened g.happened f.passed g.passed;
+        passed = passes_then times p q r f.happened g.happened f.passed g.passed;
         crosses = crosses_then steps u v w f.crossed g.crossed f.crosses g.crosses;
         matches = matches_then p.site.top p.site.dc f.happened g.happened f.crossed g.crossed f.matches there;
       }
 
   -- the ways did nothing but reading and writing
-  pub passed_exchange : (p : PortValue) (u w : W) → steps u Nothing w → HasPassed steps p u p w
-  passed_exchange p u w step = record { happened = []; crossed = Nothing ∷ []; passed = passes_same p; crosses = (w, step, refl); matches = record { gifts = refl; receipts = refl } }
+  pub passed_exchange : (p : PortValue) (u w : W) → steps u Nothing w → HasPassed steps times p u p w
+  passed_exchange p u w step = record { happened = []; crossed = Nothing ∷ []; passed = passes_same times p; crosses = (w, step, refl); matches = record { gifts = refl; receipts = refl } }
 
--- ## Turns
+  -- what passes where no shard collects passes where some may
+  pub passed_anyhow : (p q : PortValue) (u v : W) → HasPassed steps [] p u q v → HasPassed steps times p u q v
+  passed_anyhow p q u v f = record {
+    happened = f.happened;
+    crossed = f.crossed;
+    passed = record {
+      went = f.passed.went;
+      passing = λ k d lt. passes_anyhow p.site.top p.site.dc times (get_or f.happened k d) (f.passed.passing k d lt);
+      waiting = f.passed.waiting;
+      late = f.passed.late;
+      behind = f.passed.behind;
+    };
+    crosses = f.crosses;
+    matches = f.matches;
+  }
 
-handling_passes : (h : Happening) → IsHandling h → IsPassing h
-handling_passes (Did node x sends ended) is = is
-handling_passes (Heard from e) is = absurd is
-handling_passes (Given e) is = absurd is
+-- ## Turns and collections
 
-all_pass : (hs : List Happening) → All IsHandling hs → All IsPassing hs
-all_pass hs all = λ k d lt. handling_passes (get_or hs k d) (all k d lt)
+handling_passes : (top : TopologyValue) (dc : ℕ) (times : List ℕ) (h : Happening) → IsHandling h → IsPassing top dc times h
+handling_passes top dc times (Did node x sends ended) is = inl is
+handling_passes top dc times (Heard from e) is = absurd is
+handling_passes top dc times (Given e) is = absurd is
 
-none_given : (top : TopologyValue) (h : Happening) → IsHandling h → gift top h ≡ None
+collection_passes : (top : TopologyValue) (dc : ℕ) (times : List ℕ) (h : Happening) → IsCollection top dc times h → IsPassing top dc times h
+collection_passes top dc times (Did node x sends ended) is = inr is
+collection_passes top dc times (Heard from e) is = absurd is
+collection_passes top dc times (Given e) is = absurd is
+
+handling_does : (h : Happening) → IsHandling h → IsDoing h
+handling_does (Did node x sends ended) is = tt
+handling_does (Heard from e) is = absurd is
+handling_does (Given e) is = absurd is
+
+collection_does : (top : TopologyValue) (dc : ℕ) (times : List ℕ) (h : Happening) → IsCollection top dc times h → IsDoing h
+collection_does top dc times (Did node x sends ended) is = tt
+collection_does top dc times (Heard from e) is = absurd is
+collection_does top dc times (Given e) is = absurd is
+
+none_given : (top : TopologyValue) (h : Happening) → IsDoing h → gift top h ≡ None
 none_given top (Did node x sends ended) is = refl
 none_given top (Heard from e) is = absurd is
 none_given top (Given e) is = absurd is
 
-none_heard : (h : Happening) → IsHandling h → receipt h ≡ None
+none_heard : (h : Happening) → IsDoing h → receipt h ≡ None
 none_heard (Did node x sends ended) is = refl
 none_heard (Heard from e) is = absurd is
 none_heard (Given e) is = absurd is
@@ -91,35 +133,48 @@ none_heard (Given e) is = absurd is
 skips : {X Y : Type 0} (f : X → Option Y) (x : X) (xs : List X) → f x ≡ None → filter_map f xs ≡ [] → filter_map f (x ∷ xs) ≡ []
 skips f x xs none rest = rw none rest
 
-no_gifts : (top : TopologyValue) (hs : List Happening) → All IsHandling hs → filter_map (gift top) hs ≡ []
+no_gifts : (top : TopologyValue) (hs : List Happening) → All IsDoing hs → filter_map (gift top) hs ≡ []
 no_gifts top [] all = refl
-no_gifts top (h ∷ hs) all = skips (gift top) h hs (none_given top h (All-head IsHandling h hs all)) (no_gifts top hs (All-tail IsHandling h hs all))
+no_gifts top (h ∷ hs) all = skips (gift top) h hs (none_given top h (All-head IsDoing h hs all)) (no_gifts top hs (All-tail IsDoing h hs all))
 
-no_receipts : (hs : List Happening) → All IsHandling hs → filter_map receipt hs ≡ []
+no_receipts : (hs : List Happening) → All IsDoing hs → filter_map receipt hs ≡ []
 no_receipts [] all = refl
-no_receipts (h ∷ hs) all = skips receipt h hs (none_heard h (All-head IsHandling h hs all)) (no_receipts hs (All-tail IsHandling h hs all))
+no_receipts (h ∷ hs) all = skips receipt h hs (none_heard h (All-head IsDoing h hs all)) (no_receipts hs (All-tail IsDoing h hs all))
+
+module _ {W : Type 0} (steps : W → Crossing → W → Type 0) (times : List ℕ) (p q : PortValue) (w : W) (waiting : q.waiting ≡ p.waiting) (behind : q.behind ≡ p.behind) where
+  -- actors did this, and nothing crossed
+  passed_doings : (happened : List Happening) → GoesOnWith p.site happened q.site → All (IsPassing p.site.top p.site.dc times) happened → All IsDoing happened → q.late ≡ p.late ++ ends_in happened → HasPassed steps times p w q w
+  passed_doings happened went passing doing late = record {
+    happened = happened;
+    crossed = [];
+    passed = record { went = went; passing = passing; waiting = waiting; late = late; behind = behind };
+    crosses = refl;
+    matches = record { gifts = no_gifts p.site.top happened doing; receipts = no_receipts happened doing };
+  }
+
+  -- turns of the site, none of which was refused
+  pub passed_turns : (most : ℕ) → HasTurns None most p.site p.late None q.site q.late → HasPassed steps times p w q w
+  passed_turns most t =
+      passed_doings t.happened t.went (λ k d lt. handling_passes p.site.top p.site.dc times (get_or t.happened k d) (t.handled k d lt)) (λ k d lt. handling_does (get_or t.happened k d) (t.handled k d lt)) t.is_told.0
+
+  -- its shards collected
+  pub passed_collections : HasCollected times p.site p.late q.site q.late → HasPassed steps times p w q w
+  passed_collections t =
+      passed_doings t.happened t.went (λ k d lt. collection_passes p.site.top p.site.dc times (get_or t.happened k d) (t.collected k d lt))
+      (λ k d lt. collection_does p.site.top p.site.dc times (get_or t.happened k d) (t.collected k d lt)) t.ended
+
+-- ## What crosses
 
 module _ {W : Type 0} (steps : W → Crossing → W → Type 0) (p q : PortValue) (w : W) where
-  -- turns of the site, none of which was refused
-  pub passed_turns : (most : ℕ) → HasTurns None most p.site p.late None q.site q.late → q.waiting ≡ p.waiting → q.behind ≡ p.behind → HasPassed steps p w q w
-  passed_turns most t waiting behind =
-      record {
-        happened = t.happened;
-        crossed = [];
-        passed = record { went = t.went; passing = all_pass t.happened t.handled; waiting = waiting; late = t.is_told.0; behind = behind };
-        crosses = refl;
-        matches = record { gifts = no_gifts p.site.top t.happened t.handled; receipts = no_receipts t.happened t.handled };
-      }
-
   -- an envelope was given, and the ways took it for the site of the actor for which it is
-  pub passed_gift : (v : W) (to : ℕ) (e : Envelope) → HasGiven p.site (Some e) q.site → q ≡ record p { site = q.site } → to ≡ site_of p.site.top e.to → steps w (Sent to e) v → HasPassed steps p w q v
+  pub passed_gift : (v : W) (to : ℕ) (e : Envelope) → HasGiven p.site (Some e) q.site → q ≡ record p { site = q.site } → to ≡ site_of p.site.top e.to → steps w (Sent to e) v → HasPassed steps [] p w q v
   passed_gift v to e g stays there step =
       record {
         happened = Given e ∷ [];
         crossed = Sent to e ∷ [];
         passed = record {
           went = record { topology = ap (λ (s : SiteValue). s.top) g.2; dc = ap (λ (s : SiteValue). s.dc) g.2; story = ap (λ (s : SiteValue). s.story) g.2; sound = λ z. sym (ap (λ (s : SiteValue). s.sound) g.2) ∙ z };
-          passing = All-cons IsPassing (Given e) [] tt (All-nil IsPassing);
+          passing = All-cons (IsPassing p.site.top p.site.dc []) (Given e) [] tt (All-nil (IsPassing p.site.top p.site.dc []));
           waiting = ap (λ (z : PortValue). z.waiting) stays;
           late = ap (λ (z : PortValue). z.late) stays ∙ sym (append-nil p.late);
           behind = ap (λ (z : PortValue). z.behind) stays;
@@ -129,14 +184,14 @@ module _ {W : Type 0} (steps : W → Crossing → W → Type 0) (p q : PortValue
       }
 
   -- one that came was heard
-  pub passed_receipt : (v : W) (from : ℕ) (e : Envelope) → q ≡ record p { site = goes_on p.site (Heard from e) } → may_come p.site.top p.site.dc from e ≡ true → steps w (Came from e) v → HasPassed steps p w q v
+  pub passed_receipt : (v : W) (from : ℕ) (e : Envelope) → q ≡ record p { site = goes_on p.site (Heard from e) } → may_come p.site.top p.site.dc from e ≡ true → steps w (Came from e) v → HasPassed steps [] p w q v
   passed_receipt v from e is allowed step =
       record {
         happened = Heard from e ∷ [];
         crossed = Came from e ∷ [];
         passed = record {
           went = record { topology = ap (λ (z : PortValue). z.site.top) is; dc = ap (λ (z : PortValue). z.site.dc) is; story = ap (λ (z : PortValue). z.site.story) is; sound = λ z. sym (ap (λ (y : PortValue). y.site.sound) is) ∙ z };
-          passing = All-cons IsPassing (Heard from e) [] tt (All-nil IsPassing);
+          passing = All-cons (IsPassing p.site.top p.site.dc []) (Heard from e) [] tt (All-nil (IsPassing p.site.top p.site.dc []));
           waiting = ap (λ (z : PortValue). z.waiting) is;
           late = ap (λ (z : PortValue). z.late) is ∙ sym (append-nil p.late);
           behind = ap (λ (z : PortValue). z.behind) is;
@@ -146,13 +201,13 @@ module _ {W : Type 0} (steps : W → Crossing → W → Type 0) (p q : PortValue
       }
 
   -- one that came and may not come from there was refused
-  pub passed_refusal : (u v : W) (from : ℕ) (e : Envelope) → q ≡ p → may_come p.site.top p.site.dc from e ≡ false → steps w (Came from e) u → steps u (Refused from) v → HasPassed steps p w q v
+  pub passed_refusal : (u v : W) (from : ℕ) (e : Envelope) → q ≡ p → may_come p.site.top p.site.dc from e ≡ false → steps w (Came from e) u → steps u (Refused from) v → HasPassed steps [] p w q v
   passed_refusal u v from e same stranger came refused =
-      subst (λ z. HasPassed steps p w z v) (sym same)
+      subst (λ z. HasPassed steps [] p w z v) (sym same)
       (record {
         happened = [];
         crossed = Came from e ∷ Refused from ∷ [];
-        passed = passes_same p;
+        passed = passes_same [] p;
         crosses = (u, came, (v, refused, refl));
         matches = record { gifts = refl; receipts = rw stranger refl };
       })
@@ -165,3 +220,18 @@ may_not_come sound may fault (inr (stranger, inl bad)) other good = absurd (true
     true_false : true ≡ false → ⊥
     true_false q = cc
 may_not_come sound may fault (inr (stranger, inr not)) other good = not
+
+-- ## Marks
+
+-- new ones were made of the clocks that the shards had on the way
+pub marked_anew : {W : Type 0} (steps : W → Crossing → W → Type 0) (xs ys : List ℕ) (time : ℕ) (a b c : PortValue) (u v w : W) (old new : Marks)
+    → HasPassed steps xs a u b v → HasPassed steps ys b v c w → is_due old time ≡ true → new.taken ≡ time → new.clocks.items ≡ clocks_of b.site → AreMarked time a.site c.site old new
+marked_anew steps xs ys time a b c u v w old new f g due taken clocks = inr (due, taken, (b.site, f.happened, g.happened, f.passed.went, g.passed.went, clocks))
+
+-- the marks are those that the collection gave, if it gave any
+pub marked_by : {W : Type 0} (steps : W → Crossing → W → Type 0) (xs ys : List ℕ) (time : ℕ) (a b c : PortValue) (u v w : W) (old new : Marks) (fresh : Option Marks)
+    → HasPassed steps xs a u b v → HasPassed steps ys b v c w → new ≡ unwrap_or fresh old
+    → IfSome fresh (λ m. (is_due old time ≡ true) × (m.taken ≡ time) × (m.clocks.items ≡ clocks_of b.site)) → AreMarked time a.site c.site old new
+marked_by steps xs ys time a b c u v w old new None f g is told = inl is
+marked_by steps xs ys time a b c u v w old new (Some m) f g is told =
+    subst (λ z. AreMarked time a.site c.site old z) (sym is) (marked_anew steps xs ys time a b c u v w old m f g told.0 told.1 told.2)

@@ -1,23 +1,47 @@
 -- What a round makes of a node.
-use Rattle.std.specs.Prelude.{◌≡◌, ℕ, Bool, List, ◌++◌, All, filter, filter_map, Option, Some, None}
+use Rattle.std.specs.Prelude.{◌≡◌, ◌⊎◌, ◌-◌, ℕ, nat_le, if◌then◌else◌, Bool, true, List, [], ◌++◌, All, filter, filter_map, Option, Some, None}
 use Rattle.messages.specs.declared.envelope.Envelope.{Envelope}
 use Rattle.messages.specs.Topology.{TopologyValue}
 use Rattle.readiness.specs.Lines.{ReadyValue}
 use Rattle.doors.specs.declared.listening.Doors.{Doors}
 use Rattle.doors.specs.Spans.{Spans}
 use Rattle.site.specs.Story.{Happening, Did, Heard, Given, site_of, may_come}
+use Rattle.site.specs.Sites.{SiteValue}
 use Rattle.site_port.specs.Ends.{ends_in, IsHandling, GoesOnWith}
+use Rattle.site_port.specs.Collecting.{clocks_of, IsCollection}
 use Rattle.site_port.specs.Port.{PortValue, IsStep}
 use Rattle.threaded.specs.Machines.{Refuses}
 use Rattle.ways.specs.Crossings.{Crossing, Crosses, sent_by, brought_by}
+use Rattle.hosting.specs.declared.marks.Marks.{Marks}
+
+-- ## Marks
+
+-- whether it is time for the shards to collect: 5,000 ms have passed since the marks were taken
+abbrev pub is_due : Marks → ℕ → Bool
+is_due marks time = nat_le 5000 (time - marks.taken)
+
+-- up to where they collect at a time: up to the marks, where it is time
+abbrev pub due : Marks → ℕ → List ℕ
+due marks time = if is_due marks time then marks.clocks.items else []
+
+-- the shards had these clocks somewhere between two moments of their site
+abbrev pub HadClocks : SiteValue → SiteValue → List ℕ → Type 0
+HadClocks old new clocks =
+    (between : SiteValue) × (first rest : List Happening) × GoesOnWith old first between × GoesOnWith between rest new × (clocks ≡ clocks_of between)
+
+-- The marks after a time at which the site went on so: they stay, or it is time, and they are the clocks that its shards had then.
+abbrev pub AreMarked : ℕ → SiteValue → SiteValue → Marks → Marks → Type 0
+AreMarked time old new marks marks_then =
+    (marks_then ≡ marks) ⊎ ((is_due marks time ≡ true) × (marks_then.taken ≡ time) × HadClocks old new marks_then.clocks.items)
 
 -- ## Between requests
 
--- an actor of the site handled an envelope, one came from another site, or one was given to the way to another
-abbrev pub IsPassing : Happening → Type 0
-IsPassing (Did node x sends ended) = IsHandling (Did node x sends ended)
-IsPassing (Heard from e) = Unit {0}
-IsPassing (Given e) = Unit {0}
+-- an actor of the site handled an envelope, a shard of it collected up to the time that it has among these, an envelope came from
+-- another site, or one was given to the way to another
+abbrev pub IsPassing : TopologyValue → ℕ → List ℕ → Happening → Type 0
+IsPassing top dc times (Did node x sends ended) = IsHandling (Did node x sends ended) ⊎ IsCollection top dc times (Did node x sends ended)
+IsPassing top dc times (Heard from e) = Unit {0}
+IsPassing top dc times (Given e) = Unit {0}
 
 -- what was given, with the data centre of the site for whose actor it is
 abbrev pub gift : TopologyValue → Happening → Option (ℕ × Envelope)
@@ -31,10 +55,11 @@ receipt (Did node x sends ended) = None
 receipt (Heard from e) = Some (from, e)
 receipt (Given e) = None
 
--- No session was asked: the site's story went on with what passed, and all that ended meanwhile is kept.
-pub record Passes (old : PortValue) (happened : List Happening) (new : PortValue) : Type 0 where
+-- No session was asked: the site's story went on with what passed, where shards collected up to these times, and all that ended
+-- meanwhile is kept.
+pub record Passes (times : List ℕ) (old : PortValue) (happened : List Happening) (new : PortValue) : Type 0 where
   pub went : GoesOnWith old.site happened new.site
-  pub passing : All IsPassing happened
+  pub passing : All (IsPassing old.site.top old.site.dc times) happened
   pub waiting : new.waiting ≡ old.waiting
   pub late : new.late ≡ old.late ++ ends_in happened
   pub behind : new.behind ≡ old.behind
@@ -46,19 +71,21 @@ pub record Matches (top : TopologyValue) (dc : ℕ) (happened : List Happening) 
   pub receipts : filter_map receipt happened ≡ filter (λ (r : ℕ × Envelope). may_come top dc r.0 r.1) (filter_map brought_by crossed)
 
 -- The site passed on, and what crossed is what it gave and heard.
-pub record HasPassed {W : Type 0} (steps : W → Crossing → W → Type 0) (port : PortValue) (ways : W) (port_then : PortValue) (ways_then : W) : Type 0 where
+pub record HasPassed {W : Type 0} (steps : W → Crossing → W → Type 0) (times : List ℕ) (port : PortValue) (ways : W) (port_then : PortValue) (ways_then : W) : Type 0 where
   pub happened : List Happening
   pub crossed : List Crossing
-  pub passed : Passes port happened port_then
+  pub passed : Passes times port happened port_then
   pub crosses : Crosses steps ways crossed ways_then
   pub matches : Matches port.site.top port.site.dc happened crossed
 
 -- ## A round
 
--- The site passed on to where requests were answered, and nothing else happened after. The lines of those who came are told what their
--- sessions answered. Batches are refused exactly where too much waits for another site.
+-- The site passed on to where requests were answered, and nothing else happened after; where it was time its shards collected up to the
+-- marks on the way. The lines of those who came are told what their sessions answered. Batches are refused exactly where too much waits
+-- for another site.
 pub record HasRounded {L : Type 0} {D : Type 0} {W : Type 0} (steps : W → Crossing → W → Type 0) (is_behind : W → Bool) (seen : L → ReadyValue) (gives : D → Option L → D → Type 0)
-    (doors : Doors L D) (port : PortValue) (ways : W) (doors_then : Doors L D) (port_then : PortValue) (ways_then : W) : Type 0 where
+    (time : ℕ) (doors : Doors L D) (port : PortValue) (ways : W) (marks : Marks) (doors_then : Doors L D) (port_then : PortValue) (ways_then : W) (marks_then : Marks) : Type 0 where
   pub before : PortValue
-  pub passed : HasPassed steps port ways before ways_then
+  pub passed : HasPassed steps (due marks time) port ways before ways_then
+  pub marked : AreMarked time port.site before.site marks marks_then
   pub asked : Spans seen (IsStep Refuses) gives doors.idle doors.door doors.hall.places.places.items (record before { behind = is_behind ways_then }) doors_then.door doors_then.hall.places.places.items port_then

@@ -1,5 +1,5 @@
 //! What goes to other sites, and what comes from them.
-ghost use Rattle.std.specs.Prelude.{◌≡◌, OnOk};
+ghost use Rattle.std.specs.Prelude.{◌≡◌, [], OnOk};
 ghost use Rattle.site.specs.Story.{site_of as site_of_node};
 ghost use Rattle.hosting.specs.Rounds.{HasPassed};
 
@@ -25,7 +25,7 @@ fn site_of(topology: &Topology, node: Node) -> u16
 
 // Gives the next envelope that is to go to the way to its site. Gives whether there was one.
 fn send_one<M: Machine, W: Ways>(port: &mut SiteSessions<M>, ways: &mut W) -> Result<bool, Fault>
-    ensures sent { OnOk result (HasPassed W.steps port.old ways.old port.new ways.new) }
+    ensures sent { OnOk result (HasPassed W.steps [] port.old ways.old port.new ways.new) }
 {
     let Some(envelope) = port.give()? else {
         return Ok(false);
@@ -41,7 +41,7 @@ pub(crate) fn send_all<M: Machine, W: Ways>(
     port: &mut SiteSessions<M>,
     ways: &mut W,
 ) -> Result<(), Fault>
-    ensures sent { OnOk result (HasPassed W.steps port.old ways.old port.new ways.new) }
+    ensures sent { OnOk result (HasPassed W.steps [] port.old ways.old port.new ways.new) }
 {
     for _sent in 0..MOST {
         if !send_one(port, ways)? {
@@ -53,7 +53,7 @@ pub(crate) fn send_all<M: Machine, W: Ways>(
 
 // Has the site hear the next envelope that came. Gives whether there was one.
 fn hear_one<M: Machine, W: Ways>(port: &mut SiteSessions<M>, ways: &mut W) -> Result<bool, Fault>
-    ensures heard { OnOk result (HasPassed W.steps port.old ways.old port.new ways.new) }
+    ensures heard { OnOk result (HasPassed W.steps [] port.old ways.old port.new ways.new) }
 {
     let Some((from, envelope)) = ways.next()? else {
         return Ok(false);
@@ -76,7 +76,7 @@ pub(crate) fn hear_all<M: Machine, W: Ways>(
     port: &mut SiteSessions<M>,
     ways: &mut W,
 ) -> Result<(), Fault>
-    ensures heard { OnOk result (HasPassed W.steps port.old ways.old port.new ways.new) }
+    ensures heard { OnOk result (HasPassed W.steps [] port.old ways.old port.new ways.new) }
 {
     for _heard in 0..MOST {
         if !hear_one(port, ways)? {

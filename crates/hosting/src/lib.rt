@@ -4,6 +4,7 @@
 #![tactic(auto)]
 
 mod crossing;
+mod marks;
 mod node;
 
 pub use node::Node;

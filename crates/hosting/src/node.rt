@@ -1,10 +1,12 @@
 //! Rounds of a node.
-ghost use Rattle.std.specs.Prelude.{◌≡◌, ◌⊎◌, All, None, true, IfOk, OnOk, IsErr, length};
+ghost use Rattle.std.specs.Prelude.{◌≡◌, ◌⊎◌, [], All, None, true, IfOk, OnOk, OnErr, IsErr, length};
+ghost use Rattle.std.specs.Option.{unwrap_or};
 ghost use Rattle.doors.specs.Rounds.{IsSound};
-ghost use Rattle.hosting.specs.Rounds.{HasPassed, HasRounded};
+ghost use Rattle.hosting.specs.Rounds.{due, AreMarked, HasPassed, HasRounded};
 ghost use Rattle.sites.specs.Answers.{AnswersAreMeant};
 
 use crate::crossing::{hear_all, send_all};
+use crate::marks::{Marks, collect_due};
 use doors::{Doors, Doorway, Ended, ReadySocket, Sockets};
 use logical_time::Fault;
 use readiness::ReadyLine;
@@ -23,17 +25,36 @@ pub struct Node<W, L = ReadySocket, D = Sockets> {
     doors: Doors<L, D>,
     port: SiteSessions<Actor>,
     ways: W,
+    marks: Marks,
 }
 
-// The site hears what came, handles what waits, and gives what is to go.
-fn pass<W: Ways>(port: &mut SiteSessions<Actor>, ways: &mut W, time: u64) -> Result<(), Fault>
-    ensures passed { OnOk result (HasPassed W.steps port.old ways.old port.new ways.new) }
+// The marks are these from now on, if there are any.
+fn renew(marks: &mut Marks, fresh: Option<Marks>)
+    ensures { marks.new ≡ unwrap_or fresh marks.old }
+{
+    if let Some(fresh) = fresh {
+        *marks = fresh;
+    }
+}
+
+// The site hears what came, and handles what waits; its shards collect, where it is time; and it gives what is to go.
+fn pass<W: Ways>(
+    port: &mut SiteSessions<Actor>,
+    ways: &mut W,
+    marks: &mut Marks,
+    time: u64,
+) -> Result<(), Fault>
+    ensures passed { OnOk result (HasPassed W.steps (due marks.old time) port.old ways.old port.new ways.new) }
+    ensures marked { OnOk result (AreMarked time port.old.site port.new.site marks.old marks.new) }
+    ensures unmarked { OnErr result (marks.new ≡ marks.old) }
 {
     ways.exchange(time)?;
     hear_all(port, ways)?;
     port.turn(MOST_TURNS)?;
+    let fresh = collect_due(port, marks, time)?;
     send_all(port, ways)?;
     ways.exchange(time)?;
+    renew(marks, fresh);
     Ok(())
 }
 
@@ -42,12 +63,13 @@ fn go_round<W: Ways, L: ReadyLine + Drop, D: Doorway<L> + Drop>(
     doors: &mut Doors<L, D>,
     port: &mut SiteSessions<Actor>,
     ways: &mut W,
+    marks: &mut Marks,
     time: u64,
 ) -> Result<(), Fault>
-    ensures rounded { HasRounded W.steps W.behind L.seen D.steps doors.old port.old ways.old doors.new port.new ways.new ⊎ (IsErr result × (doors.new ≡ doors.old)) }
+    ensures rounded { HasRounded W.steps W.behind L.seen D.steps time doors.old port.old ways.old marks.old doors.new port.new ways.new marks.new ⊎ (IsErr result × (doors.new ≡ doors.old) × (marks.new ≡ marks.old)) }
     ensures count { length doors.new.hall.places.places.items ≡ length doors.old.hall.places.places.items }
 {
-    pass(port, ways, time)?;
+    pass(port, ways, marks, time)?;
     port.refuse_batches(ways.is_behind());
     doors.round(port, time)
 }
@@ -63,6 +85,7 @@ impl<W: Ways + Drop, L: ReadyLine + Drop, D: Doorway<L> + Drop> Node<W, L, D> {
         longest: u64,
     ) -> Result<Node<W, L, D>, Fault>
         ensures made { IfOk result (λ n. (n.port ≡ port) × (n.ways ≡ ways) × (n.doors.door ≡ door)) }
+        ensures unmarked { IfOk result (λ n. (n.marks.clocks.items ≡ []) × (n.marks.taken ≡ 0)) }
         ensures count { IfOk result (λ n. length n.doors.hall.places.places.items ≡ length port.waiting) }
         ensures free { IfOk result (λ n. All (λ c. c ≡ None) n.doors.hall.places.places.items) }
         ensures sound { IfOk result (λ n. IsSound L.seen D.nobody n.doors) }
@@ -73,6 +96,7 @@ impl<W: Ways + Drop, L: ReadyLine + Drop, D: Doorway<L> + Drop> Node<W, L, D> {
                 doors: doors.with_longest(longest),
                 port,
                 ways,
+                marks: Marks::new(alloc),
             }),
             Err(fault) => {
                 port.close();
@@ -84,14 +108,24 @@ impl<W: Ways + Drop, L: ReadyLine + Drop, D: Doorway<L> + Drop> Node<W, L, D> {
     /// A round, which begins at this time, in milliseconds: the site hears what came from others, handles what waits and gives what is to
     /// go; then each connection that is ready is answered by the session of its place. Refused as the doors, the site and the ways are;
     /// then no further round should be asked for.
+    ///
+    /// Before it gives anything, and where 5,000 ms have passed since the last time, the shards collect up to what their clocks were then.
+    /// So what is superseded stays readable for 5 to 10 seconds, as reads in two rounds across a wide area network need it, and what is
+    /// older goes. Where memory is refused for that nothing is lost: it is tried again. Where the time stays 0 nothing is collected.
     pub fn round(&mut self, time: u64) -> Result<(), Fault>
         // also where the doors are refused; or it is refused before anybody was asked
-        ensures rounded { HasRounded W.steps W.behind L.seen D.steps self.old.doors self.old.port self.old.ways self.new.doors self.new.port self.new.ways ⊎ (IsErr result × (self.new.doors ≡ self.old.doors)) }
+        ensures rounded { HasRounded W.steps W.behind L.seen D.steps time self.old.doors self.old.port self.old.ways self.old.marks self.new.doors self.new.port self.new.ways self.new.marks ⊎ (IsErr result × (self.new.doors ≡ self.old.doors) × (self.new.marks ≡ self.old.marks)) }
         // while the site is sound, each operation that ended at it means its request, in each run that has its journals
         ensures meant { self.new.port.site.sound ≡ true → AnswersAreMeant self.new.port.site.top self.new.port.site.dc self.new.port.site.story }
         ensures count { length self.new.doors.hall.places.places.items ≡ length self.old.doors.hall.places.places.items }
     {
-        let went = go_round(&mut self.doors, &mut self.port, &mut self.ways, time);
+        let went = go_round(
+            &mut self.doors,
+            &mut self.port,
+            &mut self.ways,
+            &mut self.marks,
+            time,
+        );
         let _sound = self.port.site().is_sound();
         answers_of_sites();
         went
@@ -115,6 +149,7 @@ impl<W: Ways + Drop, L: ReadyLine + Drop, D: Doorway<L> + Drop> Node<W, L, D> {
             doors: _,
             port,
             ways: _,
+            marks: _,
         } = self;
         port.close();
     }

@@ -1,4 +1,4 @@
-use Rattle.std.proofs.Common.{◌≡◌, ◌∙◌, ap, sym, subst, false, true}
+use Rattle.std.proofs.Common.{[], ◌≡◌, ◌∙◌, ap, sym, subst, false, true}
 use Rattle.std.proofs.Common.{rules}
 use Rattle.logical_time.specs.declared.fault.Fault.TheVariants.{Memory}
 use Rattle.site.specs.Story.{may_come}
@@ -10,7 +10,7 @@ use Rattle.hosting.proofs.crossing.hear_one.Goals as goal
 
 pub returns-in_default : goal.returns-in_default
 returns-in_default g c = record {
-  heard = passed_exchange g.W.Ways.steps c.args.port.now c.args.ways.now c.next.new.self (subst (λ z. g.W.Ways.steps c.args.ways.now (came_by z) c.next.new.self) c.in_default.is c.in_ok-from.ensures.came);
+  heard = passed_exchange g.W.Ways.steps [] c.args.port.now c.args.ways.now c.next.new.self (subst (λ z. g.W.Ways.steps c.args.ways.now (came_by z) c.next.new.self) c.in_default.is c.in_ok-from.ensures.came);
 }
 
 pub returns-in-Ok : goal.returns-in-Ok

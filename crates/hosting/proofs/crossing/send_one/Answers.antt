@@ -1,4 +1,4 @@
-use Rattle.std.proofs.Common.{◌≡◌, ◌∙◌, ap, sym, subst}
+use Rattle.std.proofs.Common.{[], ◌≡◌, ◌∙◌, ap, sym, subst}
 use Rattle.site.specs.Story.{site_of}
 use Rattle.site.specs.Sites.{SiteValue}
 use Rattle.site.specs.Turns.{HasGiven}
@@ -10,7 +10,7 @@ pub returns-in_default : goal.returns-in_default
 returns-in_default g c =
     let none = subst (λ o. HasGiven c.args.port.now.site o c.give.new.self.site) c.in_default.is c.in_ok-envelope.ensures.given in
     let same : c.give.new.self ≡ c.args.port.now = c.in_ok-envelope.ensures.stays ∙ ap (λ (s : SiteValue). record c.args.port.now { site = s }) none.0 in
-    record { sent = subst (λ q. HasPassed g.W.Ways.steps c.args.port.now c.args.ways.now q c.args.ways.now) (sym same) (passed_none g.W.Ways.steps c.args.port.now c.args.ways.now) }
+    record { sent = subst (λ q. HasPassed g.W.Ways.steps [] c.args.port.now c.args.ways.now q c.args.ways.now) (sym same) (passed_none g.W.Ways.steps [] c.args.port.now c.args.ways.now) }
 
 pub returns : goal.returns
 returns g c =
