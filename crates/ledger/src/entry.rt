@@ -76,8 +76,8 @@ fn only_request(reader: &mut Reader) -> Option<Op>
     if is_spent(reader) { first } else { None }
 }
 
-// The request that has this frame, if one has.
-fn framed(alloc: Global, frame: &[u8]) -> Result<Option<Op>, Fault>
+/// The request that has this frame, if one has. Refused with `Memory` alone. Linear in the frame.
+pub fn read_request(alloc: Global, frame: &[u8]) -> Result<Option<Op>, Fault>
     ensures some { IfOk result (λ r. IfSome r (λ op. spelling op ≡ Some frame.now)) }
     ensures none { IfOk result (λ r. IfNone r ((op : Op) → spelling op ≡ Some frame.now → ⊥)) }
     ensures only { IfErr result (λ e. e ≡ Memory) }
@@ -112,7 +112,7 @@ pub fn read_entry(alloc: Global, text: &[u8]) -> Result<Option<Entry>, Fault>
     };
     let number = u16::from_be_bytes([*high, *low]);
     match *kind {
-        1 => Ok(requested(number, framed(alloc, rest)?)),
+        1 => Ok(requested(number, read_request(alloc, rest)?)),
         2 if rest.is_empty() => Ok(Some(Entry::Rested { shard: number })),
         _ => Ok(None),
     }

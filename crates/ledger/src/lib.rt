@@ -5,6 +5,6 @@ mod entry;
 mod head;
 mod law;
 
-pub use entry::{Entry, read_entry, request_text, rested_text};
+pub use entry::{Entry, read_entry, read_request, request_text, rested_text};
 pub use head::{Head, HeadError, read_head, write_head};
 pub use law::texts_are_of_one_entry;

@@ -1,0 +1,3 @@
+pub mod Parcels
+pub mod Texts
+pub mod Fields
