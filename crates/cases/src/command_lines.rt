@@ -1,7 +1,7 @@
 //! Command lines.
 use crate::showing::text_of;
 use crate::steps::Subject;
-use command_line::{Asked, Bounds, Serving, Told, read_words};
+use command_line::{Asked, Bounds, Joining, Serving, Told, read_words};
 use logical_time::Fault;
 use program::Output;
 use std::alloc::Global;
@@ -49,6 +49,16 @@ fn add_server(serving: &Serving, seen: &mut String) -> Result<(), Fault> {
     Ok(())
 }
 
+fn add_node(joining: &Joining, seen: &mut String) -> Result<(), Fault> {
+    let Joining {
+        name,
+        dc,
+        secret,
+        behind,
+    } = joining;
+    Ok(write!(seen, "site {dc} of {name}, secret {secret}, {behind} bytes")?)
+}
+
 fn add_bounds(bounds: Bounds, seen: &mut String) -> Result<(), Fault> {
     let (events, states) = (bounds.events, bounds.states);
     write!(seen, ", {events} events, {states} states")?;
@@ -85,6 +95,7 @@ impl Subject for Line {
                 add_bounds(bounds, seen)
             }
             Asked::Serve(serving) => add_server(&serving, seen),
+            Asked::Node(joining) => add_node(&joining, seen),
             Asked::Log { name, history } => {
                 let what = if history { "the history of " } else { "" };
                 Ok(write!(seen, "{what}the log {name}")?)

@@ -4,11 +4,13 @@
 #![tactic(auto)]
 
 mod exploring;
+mod joining;
 mod reading;
 mod serving;
 mod told;
 
 pub use exploring::Bounds;
+pub use joining::Joining;
 pub use reading::{Asked, read_words, refuse_words};
 pub use serving::Serving;
 pub use told::Told;

@@ -3,6 +3,7 @@ ghost use Rattle.std.specs.Prelude.{◌≡◌, IfErr};
 ghost use Rattle.logical_time.specs.declared.fault.Fault.TheVariants as fault;
 
 use crate::exploring::{Bounds, bounds_of, explore_command};
+use crate::joining::{Joining, joining_of, node_command};
 use crate::serving::{Serving, serve_command, serving_of};
 use crate::told::Told;
 use clap::error::ErrorKind;
@@ -16,6 +17,9 @@ const NO_TEXT: &str = "error: a word of the command line isn't UTF-8\n";
 
 /// What is said of a script's file.
 const SCRIPT: &str = "The script, a JSON object as docs/formats.md says";
+
+/// What is said of the file of sites.
+const SITES: &str = "The sites of all data centres, a JSON object as docs/formats.md says";
 
 /// What is said of the file of a recorded history.
 const RECORDED: &str = "A recorded history, a JSON object as docs/formats.md says";
@@ -63,6 +67,8 @@ pub enum Asked {
     },
     /// A server.
     Serve(Serving),
+    /// A node.
+    Node(Joining),
     /// What the log in the file of this name holds.
     Log {
         /// The name.
@@ -187,6 +193,7 @@ fn command<'a>(alloc: Global) -> Result<Command<'a>, AllocError> {
         .subcommand(audit_command(alloc)?)?
         .subcommand(explore_command(alloc, file(alloc, SCRIPT))?)?
         .subcommand(serve_command(alloc)?)?
+        .subcommand(node_command(alloc, file(alloc, SITES))?)?
         .subcommand(log_command(alloc)?)
 }
 
@@ -240,6 +247,10 @@ fn accepted(alloc: Global, matches: &ArgMatches<'_>) -> Result<Asked, AllocError
             Ok(Asked::Explore { name, bounds })
         }
         Some(("log", found)) => log_of(alloc, found),
+        Some(("node", found)) => {
+            let name = name_of(alloc, found)?;
+            Ok(Asked::Node(joining_of(alloc, name, found)?))
+        }
         Some((_, found)) => match serving_of(alloc, found)? {
             Ok(serving) => Ok(Asked::Serve(serving)),
             Err(told) => Ok(Asked::Told(told)),

@@ -9,6 +9,7 @@ ghost use Rattle.explore.specs.Exploration.{IsExplorationFor, IsUnexplored};
 ghost use Rattle.logfile.specs.Told.{IsLogTextFor, IsUntold};
 ghost use Rattle.eiger.specs.Answering.{IsOpened, Ran, Judged, IsAnswer};
 
+use crate::joining::join;
 use crate::serving::serve;
 use command_line::{Asked, Bounds};
 use explore::{Limits, perform_exploration};
@@ -23,8 +24,8 @@ use std::thread::Threads;
 use tracing::perform_trace;
 use workload::perform;
 
-// The file of this name, or why it can't be opened.
-fn opened(rt: &HostRuntime, name: String) -> Input<File>
+/// The file of this name, or why it can't be opened.
+pub(crate) fn opened(rt: &HostRuntime, name: String) -> Input<File>
     ensures { IsOpened (string_bytes name) result }
 {
     match File::open(rt, name.as_str()) {
@@ -187,6 +188,7 @@ pub(crate) fn answer<T: Threads + Wait + Sync, W: Buffered, E: Buffered>(
         Ok(Asked::Audit { name }) => audit(rt, name, output, errors),
         Ok(Asked::Explore { name, bounds }) => explore(rt, threads, name, bounds, output, errors),
         Ok(Asked::Serve(serving)) => serve(rt, threads, &serving, output, errors),
+        Ok(Asked::Node(joining)) => join(rt, threads, &joining, output, errors),
         Ok(Asked::Log { name, history }) => log(rt, name, history, output, errors),
         Ok(Asked::Told(told)) => told.answer(output, errors),
         Err(fault) => tell(errors, fault, None),

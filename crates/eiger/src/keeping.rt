@@ -25,8 +25,8 @@ fn tell_of<E: Buffered>(
     }
 }
 
-// How many milliseconds have gone since then, or 0 where there is no clock.
-fn millis_since(rt: &HostRuntime, began: Option<Instant>) -> u64 {
+/// How many milliseconds have gone since then, or 0 where there is no clock.
+pub(crate) fn millis_since(rt: &HostRuntime, began: Option<Instant>) -> u64 {
     let Some(began) = began else {
         return 0;
     };

@@ -28,9 +28,9 @@ fn tell_ended<E: Buffered>(
     errors.write_all(line.as_bytes())
 }
 
-// Tells of the connections that ended with a fault in the last round, as far as the output takes it.
-fn tell_all<W: Housed, E: Buffered>(alloc: Global, server: &Server<W>, errors: &mut Output<E>) {
-    for ended in server.ended() {
+/// Tells of the connections that ended with a fault in the last round, as far as the output takes it.
+pub(crate) fn tell_all<E: Buffered>(alloc: Global, all: &[Ended], errors: &mut Output<E>) {
+    for ended in all {
         let _untold = tell_ended(alloc, ended, errors);
     }
 }
@@ -76,7 +76,7 @@ fn serve_all<T: Wait, W: Housed, E: Buffered>(
 ) -> Fault {
     for _ in threads.forever() {
         let went = server.round(rt);
-        tell_all(rt.alloc(), server, errors);
+        tell_all(rt.alloc(), server.ended(), errors);
         report(rt, server, errors);
         if let Err(fault) = went {
             return fault;

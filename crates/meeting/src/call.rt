@@ -118,11 +118,11 @@ impl Call {
         }
     }
 
-    /// Writes what the socket takes.
+    /// Writes what the socket takes. What was said before trouble goes out too, so that the other end learns who this is.
     pub(crate) fn write(&mut self, time: u64) {
         // each piece has a byte at least, so that all may go
         for _piece in 0..self.channel.waiting() {
-            if self.over || self.channel.waiting() == 0 || !self.write_once(time) {
+            if self.channel.waiting() == 0 || !self.write_once(time) {
                 return;
             }
         }
