@@ -55,6 +55,19 @@ impl<D: Disk> Log<D> {
         &self.disk
     }
 
+    /// The disk, and the end of the log. What isn't synced is lost.
+    pub fn into_disk(self) -> D
+        ensures { result ≡ self.disk }
+    {
+        let Log {
+            disk,
+            secret: _,
+            end: _,
+            pending: _,
+        } = self;
+        disk
+    }
+
     /// Notes a record: it is synced by the next commit. Gives the mark by which it is taken back. Where memory is
     /// refused nothing changes.
     pub fn note(&mut self, body: &[u8]) -> Result<usize, AllocError>

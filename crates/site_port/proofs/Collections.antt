@@ -17,7 +17,7 @@ use Rattle.site.specs.Turns.{clock_in, HasBroken, IsRefused}
 use Rattle.site.proofs.Lists.{same_or_not, mapped_more}
 use Rattle.site_port.specs.declared.waiting.Late.{Late}
 use Rattle.site_port.specs.declared.waiting.Waiting.{Waiting}
-use Rattle.site_port.specs.Ends.{end_by, end_in, ends_in, GoesOnWith}
+use Rattle.site_port.specs.Ends.{end_in, ends_in, GoesOnWith}
 use Rattle.site_port.specs.Port.{AreEnds, Holds}
 use Rattle.site_port.specs.Collecting.{clock_of, IsCollection, actor_in, MayHaveCollected, IsBroken, HasCollected, HasBrokenOff}
 use Rattle.site_port.proofs.Lists.{get_mid}

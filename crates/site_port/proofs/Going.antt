@@ -1,5 +1,5 @@
 -- How the story of a site goes on by what its actors do, and what is kept of the ends in it.
-use Rattle.std.proofs.Common.{◌≡◌, ◌∙◌, ℕ, ◌⊎◌, Bool, true, false, List, [], ◌∷◌, ◌++◌, length, slice_get, Option, Some, None, inl, inr, refl, sym, subst, eqb-true}
+use Rattle.std.proofs.Common.{◌≡◌, ℕ, ◌⊎◌, Bool, true, false, List, [], ◌∷◌, ◌++◌, length, slice_get, Option, Some, None, inl, inr, refl, sym, subst, eqb-true}
 use Rattle.std.specs.Prelude.{◌&&◌, ◌==◌, All, get_or, Contains}
 use Rattle.std.proofs.lemmas.List.Elements.{All-nil, All-cons, All-append}
 use Rattle.logical_time.specs.declared.fault.Fault.{Fault}

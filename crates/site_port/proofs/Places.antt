@@ -1,6 +1,6 @@
 -- The sessions and the shards that are here.
 use Rattle.std.proofs.Common.{◌≡◌, ◌∙◌, ℕ, ◌+◌, ◌<◌, Bool, true, false, List, [], ◌∷◌, ◌++◌, map, length, slice_get, append-nil, Some, refl, sym, ap, subst, arith, eq-eqb}
-use Rattle.std.specs.Prelude.{filter, if◌then◌else◌, ◌&&◌, ◌==◌, nat_lt, Contains}
+use Rattle.std.specs.Prelude.{filter, if◌then◌else◌, ◌&&◌, nat_lt, Contains}
 use Rattle.std.proofs.lemmas.Bool.{and_from, ltb-true, lt-ltb}
 use Rattle.std.proofs.lemmas.Option.{slice_get_within, get_or_from_slice_get}
 use Rattle.std.specs.List.{range_with_len}

@@ -1,5 +1,5 @@
 -- Collections of the shards of a site.
-use Rattle.std.specs.Prelude.{◌≡◌, ◌+◌, ◌-◌, ◌^◌, ◌<◌, ◌⊎◌, ℕ, min, false, List, ◌++◌, All, map, filter_map, slice_get, option_to_list, Option, Some, None}
+use Rattle.std.specs.Prelude.{◌≡◌, ◌-◌, ◌^◌, ◌<◌, ◌⊎◌, ℕ, min, false, List, ◌++◌, All, map, filter_map, slice_get, option_to_list, Option, Some, None}
 use Rattle.std.specs.List.{range_with_len}
 use Rattle.std.specs.List.Sorted.{IsStrictlyIncreasing}
 use Rattle.messages.specs.declared.outcome.Outcome.{Outcome}

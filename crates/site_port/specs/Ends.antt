@@ -1,11 +1,11 @@
--- What the operations of a site's sessions came to, by its story.
-use Rattle.std.specs.Prelude.{◌≡◌, ◌==◌, ◌&&◌, ◌⊎◌, ℕ, zero, suc, Bool, true, false, List, [], ◌∷◌, ◌++◌, All, filter_map, length, slice_get, Option, Some, None, Contains}
+-- The ends of operations in what happens at a site, and what turns of it tell of them.
+use Rattle.std.specs.Prelude.{◌≡◌, ◌==◌, ◌&&◌, ◌⊎◌, ℕ, Bool, true, false, List, [], ◌∷◌, ◌++◌, All, filter_map, length, Option, Some, None}
 use Rattle.logical_time.specs.declared.fault.Fault.{Fault}
 use Rattle.messages.specs.declared.envelope.Envelope.{Envelope}
 use Rattle.messages.specs.declared.outcome.Outcome.{Outcome}
 use Rattle.messages.specs.declared.event.ActorEvent.TheVariants.{Handle}
 use Rattle.actors.specs.Machines.{Refuses}
-use Rattle.site.specs.Story.{Story, Happening, Did, Heard, Given, journal, outcomes, arrivals, handled as handled_in}
+use Rattle.site.specs.Story.{Happening, Did, Heard, Given, arrivals, handled as handled_in}
 use Rattle.site.specs.Sites.{SiteValue}
 use Rattle.site.specs.Turns.{IsTurnRefused}
 use Rattle.site_port.specs.declared.waiting.Late.{Late}
