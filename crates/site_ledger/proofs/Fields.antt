@@ -13,7 +13,7 @@ use Rattle.wire.specs.Requests as requests
 use Rattle.parcels.specs.Spelling as parcels
 use Rattle.site_ledger.specs.Entries.{IsTextOf, IsRead}
 use Rattle.site_ledger.specs.declared.entry.Entry.{Entry}
-use Rattle.site_ledger.specs.declared.entry.Entry.TheVariants.{Whose, Asked, Came, Collected}
+use Rattle.site_ledger.specs.declared.entry.Entry.TheVariants.{Whose, Asked, Came, Collected, Met}
 use Rattle.site_ledger.proofs.Texts.{asked_parts, came_parts, kind_told}
 
 -- ## A number in front
@@ -45,7 +45,7 @@ begun n fields rest e = (
   sym (ap (drop 2) e ∙ drop_at (big_bytes 2 n) rest 2 (length-bytes_high_first 2 n)),
 )
 
--- ## Whose it is, and collections
+-- ## Whose it is, collections, and meetings
 
 pub whose_read : (fields two rest i last d : List ℕ) (n : ℕ) → Begins fields two rest n → length fields ≡ 50 → i ≡ take 16 rest → last ≡ drop 16 rest → d ≡ last → IsTextOf (Whose n i d) (3 ∷ fields)
 whose_read fields two rest i last d n b long front back same =
@@ -66,6 +66,13 @@ collected_read fields two rest eight n time value b long same number lt is =
     cond-true (nat_lt time (2 ^ 48)) (Some (7 ∷ (big_bytes 2 n ++ big_bytes 8 time))) None (lt-ltb time (2 ^ 48) (subst (λ t. t < 2 ^ 48) (sym is) lt))
     ∙ ap (λ (xs : List ℕ). Some (7 ∷ (big_bytes 2 n ++ xs))) again
     ∙ ap (λ (xs : List ℕ). Some (7 ∷ xs)) (begins_so fields two rest n b)
+
+pub met_read : (fields two rest i : List ℕ) (n : ℕ) → Begins fields two rest n → length fields ≡ 18 → i ≡ rest → IsTextOf (Met n i) (8 ∷ fields)
+met_read fields two rest i n b long same =
+    let len : length i ≡ 16 = omega (arith, ap length (same ∙ b.others), length-drop 2 fields) in
+    cond-true (length i == 16) (Some (8 ∷ (big_bytes 2 n ++ i))) None (eq-eqb (length i) 16 len)
+    ∙ ap (λ (xs : List ℕ). Some (8 ∷ (big_bytes 2 n ++ xs))) same
+    ∙ ap (λ (xs : List ℕ). Some (8 ∷ xs)) (begins_so fields two rest n b)
 
 -- ## Requests
 

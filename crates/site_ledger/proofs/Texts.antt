@@ -12,7 +12,7 @@ use Rattle.wire.proofs.Streams.{request_apart}
 use Rattle.parcels.specs.Spelling as parcels
 use Rattle.site_ledger.specs.Entries.{IsTextOf, IsNumbered}
 use Rattle.site_ledger.specs.declared.entry.Entry.{Entry}
-use Rattle.site_ledger.specs.declared.entry.Entry.TheVariants.{Whose, Asked, Came, Turned, Collected}
+use Rattle.site_ledger.specs.declared.entry.Entry.TheVariants.{Whose, Asked, Came, Turned, Collected, Met}
 use Rattle.site_ledger.proofs.Parcels.{one_envelope}
 
 -- ## The parts of a text
@@ -47,6 +47,10 @@ pub record IsCollected (shard time : ℕ) (text : List ℕ) : Type 0 where
   pub time_fits : time < 2 ^ 48
   pub parts : text ≡ 7 ∷ (big_bytes 2 shard ++ big_bytes 8 time)
 
+pub record IsMet (dc : ℕ) (i text : List ℕ) : Type 0 where
+  pub incarnation : length i ≡ 16
+  pub parts : text ≡ 8 ∷ (big_bytes 2 dc ++ i)
+
 pub whose_parts : (dc : ℕ) (i d text : List ℕ) → IsTextOf (Whose dc i d) text → IsWhose dc i d text
 whose_parts dc i d text e =
     let g = given (length i == 16 && length d == 32) (3 ∷ (big_bytes 2 dc ++ (i ++ d))) text e in
@@ -71,6 +75,11 @@ collected_parts shard time text e =
     let g = given (nat_lt time (2 ^ 48)) (7 ∷ (big_bytes 2 shard ++ big_bytes 8 time)) text e in
     record { time_fits = ltb-true time (2 ^ 48) g.0; parts = g.1 }
 
+pub met_parts : (dc : ℕ) (i text : List ℕ) → IsTextOf (Met dc i) text → IsMet dc i text
+met_parts dc i text e =
+    let g = given (length i == 16) (8 ∷ (big_bytes 2 dc ++ i)) text e in
+    record { incarnation = eqb-true (length i) 16 g.0; parts = g.1 }
+
 -- ## Kinds
 
 abbrev pub kind_of : Entry → ℕ
@@ -79,6 +88,7 @@ kind_of (Asked session op) = 4
 kind_of (Came dc envelope) = 5
 kind_of (Turned count) = 6
 kind_of (Collected shard time) = 7
+kind_of (Met dc incarnation) = 8
 
 pub kind_told : (e : Entry) (text : List ℕ) → IsTextOf e text → slice_index text 0 ≡ kind_of e
 kind_told (Whose dc i d) text e = ap (λ (t : List ℕ). slice_index t 0) (whose_parts dc i d text e).parts
@@ -86,6 +96,7 @@ kind_told (Asked session op) text e = ap (λ (t : List ℕ). slice_index t 0) (a
 kind_told (Came dc envelope) text e = ap (λ (t : List ℕ). slice_index t 0) (came_parts dc envelope text e).parts
 kind_told (Turned count) text e = ap (λ (t : List ℕ). slice_index t 0) (turned_parts count text e)
 kind_told (Collected shard time) text e = ap (λ (t : List ℕ). slice_index t 0) (collected_parts shard time text e).parts
+kind_told (Met dc i) text e = ap (λ (t : List ℕ). slice_index t 0) (met_parts dc i text e).parts
 
 -- ## One entry
 
@@ -131,6 +142,11 @@ collected_told s t a b text ls lt p q =
     let same = whole_told 8 a b (omega arith) (omega arith) told.1 in
     ap (λ (n : ℕ). Collected n a) told.0 ∙ ap (λ (n : ℕ). Collected t n) same
 
+met_told : (a b : ℕ) (i j text : List ℕ) → a < 256 ^ 2 → b < 256 ^ 2 → IsMet a i text → IsMet b j text → Met a i ≡ Met b j
+met_told a b i j text la lb p q =
+    let told = front_told 2 a b i j la lb (behind 8 (big_bytes 2 a ++ i) (big_bytes 2 b ++ j) text p.parts q.parts) in
+    ap (λ (n : ℕ). Met n i) told.0 ∙ ap (λ (x : List ℕ). Met b x) told.1
+
 pub one_entry : (a b : Entry) (text : List ℕ) → IsNumbered a → IsNumbered b → IsTextOf a text → IsTextOf b text → a ≡ b
 one_entry (Whose m i d) (Whose n j g) text la lb p q = whose_told m n i j d g text la lb (whose_parts m i d text p) (whose_parts n j g text q)
 one_entry (Asked s a) (Asked t b) text la lb p q = asked_told s t a b text la lb (asked_parts s a text p) (asked_parts t b text q)
@@ -138,6 +154,7 @@ one_entry (Came s a) (Came t b) text la lb p q = came_told s t a b text la lb (c
 one_entry (Turned m) (Turned n) text la lb p q =
     ap (λ (x : ℕ). Turned x) (whole_told 4 m n la lb (behind 6 (big_bytes 4 m) (big_bytes 4 n) text (turned_parts m text p) (turned_parts n text q)))
 one_entry (Collected s a) (Collected t b) text la lb p q = collected_told s t a b text la lb (collected_parts s a text p) (collected_parts t b text q)
+one_entry (Met m i) (Met n j) text la lb p q = met_told m n i j text la lb (met_parts m i text p) (met_parts n j text q)
 one_entry a b text la lb p q =
     let differ = sym (kind_told a text p) ∙ kind_told b text q in
     absurd cc

@@ -40,4 +40,11 @@ pub enum Entry {
         /// Up to when.
         time: Time,
     },
+    /// The site of another data centre was met, and is this process.
+    Met {
+        /// That data centre.
+        dc: u16,
+        /// Which process: drawn when that one's log was made.
+        incarnation: [u8; 16],
+    },
 }

@@ -9,4 +9,4 @@ mod writing;
 pub use entry::Entry;
 pub use law::texts_are_of_one_entry;
 pub use reading::read_entry;
-pub use writing::{asked_text, came_text, collected_text, turned_text, whose_text};
+pub use writing::{asked_text, came_text, collected_text, met_text, turned_text, whose_text};

@@ -146,6 +146,20 @@ fn collected(fields: &[u8]) -> Option<Entry>
     })
 }
 
+// The entry of a meeting, by what stands behind its kind.
+fn met(fields: &[u8]) -> Option<Entry>
+    ensures { IsRead (8 ∷ fields.now) result }
+{
+    let (dc, rest) = fields.split_first_chunk::<2>()?;
+    let Ok(incarnation) = <[u8; 16]>::try_from(rest) else {
+        return None;
+    };
+    Some(Entry::Met {
+        dc: u16::from_be_bytes(*dc),
+        incarnation,
+    })
+}
+
 /// What the record of this text says; none where it is the text of no entry. Refused with `Memory` alone. Linear in the
 /// text.
 pub fn read_entry(alloc: Global, text: &[u8]) -> Result<Option<Entry>, Fault>
@@ -160,6 +174,7 @@ pub fn read_entry(alloc: Global, text: &[u8]) -> Result<Option<Entry>, Fault>
         [5, fields @ ..] => came(alloc, fields),
         [6, fields @ ..] => Ok(turned(fields)),
         [7, fields @ ..] => Ok(collected(fields)),
+        [8, fields @ ..] => Ok(met(fields)),
         _ => Ok(None),
     }
 }

@@ -4,7 +4,7 @@ ghost use Rattle.logical_time.specs.declared.fault.Fault.TheVariants.{Memory, Ov
 ghost use Rattle.wire.specs.Requests as requests;
 ghost use Rattle.parcels.specs.Spelling as parcels;
 ghost use Rattle.site_ledger.specs.Entries.{IsTextOf};
-ghost use Rattle.site_ledger.specs.declared.entry.Entry.TheVariants.{Whose, Asked, Came, Turned, Collected};
+ghost use Rattle.site_ledger.specs.declared.entry.Entry.TheVariants.{Whose, Asked, Came, Turned, Collected, Met};
 
 use bytes::BufMut;
 use logical_time::{Fault, Time};
@@ -86,5 +86,19 @@ pub fn collected_text(alloc: Global, shard: u16, time: Time) -> Result<Vec<u8>, 
     text.put_u8(7)?;
     text.put_u16(shard)?;
     text.put_u64(time.get())?;
+    Ok(text)
+}
+
+/// The text of a meeting with the site of this data centre, which is the process of this incarnation. Refused with `Memory`
+/// alone.
+pub fn met_text(alloc: Global, dc: u16, incarnation: &[u8; 16]) -> Result<Vec<u8>, Fault>
+    ensures ok { IfOk result (λ text. IsTextOf (Met dc incarnation.now) text.items) }
+    ensures fits { IfOk result (λ text. length text.items < 256 ^ 4) }
+    ensures only { IfErr result (λ e. e ≡ Memory) }
+{
+    let mut text = Vec::new(alloc);
+    text.put_u8(8)?;
+    text.put_u16(dc)?;
+    text.put_slice(incarnation)?;
     Ok(text)
 }
