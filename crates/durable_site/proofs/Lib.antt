@@ -1,0 +1,11 @@
+pub mod Steps
+pub mod Logs
+pub mod Settled
+pub mod Settling
+pub mod Calls
+pub mod Kept
+pub mod Read
+pub mod Redone
+pub mod Opened
+pub mod Heard
+pub mod LastMet
