@@ -3,6 +3,8 @@ ghost use Rattle.std.specs.Prelude.{◌<◌};
 
 use crate::building;
 use crate::mail::{How, Mail};
+use disk::Memory;
+use durable_site::{DurableSite, Identity};
 use logical_time::{Fault, Node};
 use messages::{Op, Outcome, Topology};
 use parcels::{read_parcel, write_parcel};
@@ -18,12 +20,12 @@ const MANY: u64 = 10_000;
 /// Three sites. They must be closed.
 pub(crate) struct Stores {
     topology: Topology,
-    sites: Vec<SiteSessions<Actor>>,
+    sites: Vec<SiteSessions<Actor, Memory>>,
     mail: Mail,
 }
 
 // Ends the sites.
-fn close_all(mut sites: Vec<SiteSessions<Actor>>) {
+fn close_all(mut sites: Vec<SiteSessions<Actor, Memory>>) {
     while let Some(site) = sites.pop() {
         site.close();
     }
@@ -31,13 +33,23 @@ fn close_all(mut sites: Vec<SiteSessions<Actor>>) {
 }
 
 // The site of a data centre that there is, to which nothing happened yet.
-fn open_site(alloc: Global, topology: &Topology, dc: u16) -> Result<SiteSessions<Actor>, Fault>
+fn open_site(
+    alloc: Global,
+    topology: &Topology,
+    dc: u16,
+) -> Result<SiteSessions<Actor, Memory>, Fault>
     requires { dc < topology.now.dcs }
 {
-    SiteSessions::new(alloc, Site::new(alloc, topology, dc)?)
+    let identity = Identity {
+        dc,
+        incarnation: [0; 16],
+        digest: [0; 32],
+    };
+    let site = Site::new(alloc, topology, dc)?;
+    SiteSessions::new(alloc, DurableSite::without_log(site, identity))
 }
 
-fn open_all(alloc: Global, topology: &Topology) -> Result<Vec<SiteSessions<Actor>>, Fault> {
+fn open_all(alloc: Global, topology: &Topology) -> Result<Vec<SiteSessions<Actor, Memory>>, Fault> {
     let count = topology.dcs();
     let mut sites = Vec::with_capacity(alloc, usize::from(count))?;
     for dc in 0..count {
@@ -65,7 +77,7 @@ fn site_of(topology: &Topology, node: Node) -> u16 {
 fn settle(
     alloc: Global,
     topology: &Topology,
-    site: &mut SiteSessions<Actor>,
+    site: &mut SiteSessions<Actor, Memory>,
     mail: &mut Mail,
 ) -> Result<(), Fault> {
     site.turn(MANY)?;
@@ -82,7 +94,7 @@ fn settle(
 // A parcel comes to a site.
 fn hear(
     alloc: Global,
-    site: &mut SiteSessions<Actor>,
+    site: &mut SiteSessions<Actor, Memory>,
     from: u16,
     bytes: &[u8],
 ) -> Result<(), Fault> {

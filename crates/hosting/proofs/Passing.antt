@@ -1,5 +1,5 @@
 -- What passes between requests, one thing after the other.
-use Rattle.std.proofs.Common.{◌≡◌, ◌∙◌, ℕ, Bool, true, false, List, [], ◌∷◌, ◌++◌, Option, Some, None, ◌⊎◌, inl, inr, refl, sym, ap, subst, append_assoc, append-nil}
+use Rattle.std.proofs.Common.{◌≡◌, ◌∙◌, ℕ, Bool, true, false, List, [], ◌∷◌, ◌++◌, Option, Some, None, ◌⊎◌, inl, inr, refl, sym, ap, subst, append_assoc, append-nil, length-append, length, ◌+◌}
 use Rattle.std.specs.Prelude.{All, filter, filter_map, get_or, IfSome}
 use Rattle.std.specs.Option.{unwrap_or}
 use Rattle.std.proofs.lemmas.List.Elements.{All-nil, All-cons, All-head, All-tail, All-append, filter_map-append, filter-append}
@@ -7,11 +7,13 @@ use Rattle.logical_time.specs.declared.fault.Fault.{Fault}
 use Rattle.logical_time.specs.declared.fault.Fault.TheVariants.{Memory, StrangerEnd}
 use Rattle.messages.specs.declared.envelope.Envelope.{Envelope}
 use Rattle.messages.specs.Topology.{TopologyValue}
-use Rattle.site.specs.Story.{Happening, Did, Heard, Given, site_of, may_come}
+use Rattle.site.specs.Story.{Story, Happening, Did, Heard, Given, site_of, may_come, given, given_by}
+use Rattle.site.specs.Steps.{steps, step_of}
 use Rattle.site.specs.Sites.{SiteValue}
 use Rattle.site.specs.Turns.{goes_on, HasGiven}
 use Rattle.site_port.specs.Ends.{ends_in, IsHandling, GoesOnWith, HasTurns}
 use Rattle.site_port.specs.Collecting.{clocks_of, IsCollection, HasCollected}
+use Rattle.site_port.specs.declared.waiting.Late.{Late}
 use Rattle.site_port.specs.Port.{PortValue, IsDoing}
 use Rattle.site_port.proofs.Turning.{goes_same, goes_then, ends_then}
 use Rattle.ways.specs.Crossings.{Crossing, Sent, Came, Refused, Nothing, Crosses, sent_by, brought_by}
@@ -211,6 +213,39 @@ module _ {W : Type 0} (steps : W → Crossing → W → Type 0) (p q : PortValue
         crosses = (u, came, (v, refused, refl));
         matches = record { gifts = refl; receipts = rw stranger refl };
       })
+
+-- giving is no step
+pub giving_is_no_step : (s : Story) (e : Envelope) → steps (s ++ Given e ∷ []) ≡ steps s
+giving_is_no_step s e = filter_map-append step_of s (Given e ∷ []) ∙ append-nil (steps s)
+
+-- and one gift more
+pub one_gift_more : (s : Story) (e : Envelope) → length (given (s ++ Given e ∷ [])) ≡ length (given s) + 1
+one_gift_more s e = ap length (filter_map-append given_by s (Given e ∷ [])) ∙ length-append (given s) (e ∷ [])
+
+-- hearing gives nothing
+pub hearing_gives_none : (s : Story) (from : ℕ) (e : Envelope) → given (s ++ Heard from e ∷ []) ≡ given s
+hearing_gives_none s from e = filter_map-append given_by s (Heard from e ∷ []) ∙ append-nil (given s)
+
+-- neither do actors
+none_given_by : (h : Happening) → IsDoing h → given_by h ≡ None
+none_given_by (Did node x sends ended) is = refl
+none_given_by (Heard from e) is = absurd is
+none_given_by (Given e) is = absurd is
+
+no_gift_of : (hs : List Happening) → All IsDoing hs → given hs ≡ []
+no_gift_of [] all = refl
+no_gift_of (h ∷ hs) all = skips given_by h hs (none_given_by h (All-head IsDoing h hs all)) (no_gift_of hs (All-tail IsDoing h hs all))
+
+doing_gives_none : (old new : SiteValue) (happened : List Happening) → GoesOnWith old happened new → All IsDoing happened → given new.story ≡ given old.story
+doing_gives_none old new happened went all =
+    ap given went.story ∙ (filter_map-append given_by old.story happened ∙ (ap (λ l. given old.story ++ l) (no_gift_of happened all) ∙ append-nil (given old.story)))
+
+pub turns_give_none : (most : ℕ) (old new : SiteValue) (late kept : List Late) → HasTurns None most old late None new kept → given new.story ≡ given old.story
+turns_give_none most old new late kept t = doing_gives_none old new t.happened t.went (λ k d lt. handling_does (get_or t.happened k d) (t.handled k d lt))
+
+pub collecting_gives_none : (times : List ℕ) (old new : SiteValue) (late kept : List Late) → HasCollected times old late new kept → given new.story ≡ given old.story
+collecting_gives_none times old new late kept t =
+    doing_gives_none old new t.happened t.went (λ k d lt. collection_does old.top old.dc times (get_or t.happened k d) (t.collected k d lt))
 
 -- what is refused by a sound site, and not for memory, may not come from there
 pub may_not_come : (sound may : Bool) (fault : Fault) → (fault ≡ Memory) ⊎ ((fault ≡ StrangerEnd) × ((sound ≡ false) ⊎ (may ≡ false))) → (fault ≡ Memory → ⊥) → sound ≡ true → may ≡ false

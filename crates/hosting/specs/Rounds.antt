@@ -1,15 +1,18 @@
 -- What a round makes of a node.
-use Rattle.std.specs.Prelude.{◌≡◌, ◌⊎◌, ◌-◌, ℕ, nat_le, if◌then◌else◌, Bool, true, List, [], ◌++◌, All, filter, filter_map, Option, Some, None}
+use Rattle.std.specs.Prelude.{◌≡◌, ◌⊎◌, ◌-◌, ℕ, nat_le, if◌then◌else◌, Bool, true, List, [], ◌++◌, All, filter, filter_map, Option, Some, None, Result, Ok}
+use Rattle.logical_time.specs.declared.fault.Fault.{Fault}
 use Rattle.messages.specs.declared.envelope.Envelope.{Envelope}
 use Rattle.messages.specs.Topology.{TopologyValue}
 use Rattle.readiness.specs.Lines.{ReadyValue}
 use Rattle.doors.specs.declared.listening.Doors.{Doors}
+use Rattle.doors.specs.Rounds.{RoundSettled}
 use Rattle.doors.specs.Spans.{Spans}
-use Rattle.site.specs.Story.{Happening, Did, Heard, Given, site_of, may_come}
+use Rattle.site.specs.Story.{Happening, Did, Heard, Given, site_of, may_come, given, departures}
+use Rattle.site.specs.Steps.{steps}
 use Rattle.site.specs.Sites.{SiteValue}
 use Rattle.site_port.specs.Ends.{ends_in, IsHandling, GoesOnWith}
 use Rattle.site_port.specs.Collecting.{clocks_of, IsCollection}
-use Rattle.site_port.specs.Port.{PortValue, IsStep}
+use Rattle.site_port.specs.Port.{PortValue, SessionsValue, port_of, kept_of, IsStep}
 use Rattle.threaded.specs.Machines.{Refuses}
 use Rattle.ways.specs.Crossings.{Crossing, Crosses, sent_by, brought_by}
 use Rattle.hosting.specs.declared.marks.Marks.{Marks}
@@ -78,14 +81,35 @@ pub record HasPassed {W : Type 0} (steps : W → Crossing → W → Type 0) (tim
   pub crosses : Crosses steps ways crossed ways_then
   pub matches : Matches port.site.top port.site.dc happened crossed
 
+-- all that goes to other sites was given to the ways
+abbrev pub AreGiven : PortValue → Type 0
+AreGiven p = given p.site.story ≡ departures p.site.top p.site.dc p.site.story
+
 -- ## A round
 
+-- The site passed on, and gave nothing; then all that it had done was settled; and only then it gave, and did nothing else. So what
+-- leaves it is of steps that are kept for good, where a log is kept.
+pub record SettlesFirst {K : Type 0} {W : Type 0} (settles : SessionsValue K → Result (Unit {0}) Fault → SessionsValue K → Type 0) (crosses : W → Crossing → W → Type 0) (times : List ℕ)
+    (port : SessionsValue K) (ways : W) (port_then : SessionsValue K) (ways_then : W) : Type 0 where
+  pub done : SessionsValue K
+  pub ways_done : W
+  pub passed : HasPassed crosses times (port_of port) ways (port_of done) ways_done
+  pub ungiven : given done.site.site.story ≡ given port.site.site.story
+  pub unkept : kept_of done ≡ kept_of port
+  pub settled : SessionsValue K
+  pub is_settled : settles done (Ok tt) settled
+  pub stays : port_of settled ≡ port_of done
+  pub gave : HasPassed crosses [] (port_of settled) ways_done (port_of port_then) ways_then
+  pub undone : steps port_then.site.site.story ≡ steps settled.site.site.story
+  pub kept : kept_of port_then ≡ kept_of settled
+
 -- The site passed on to where requests were answered, and nothing else happened after; where it was time its shards collected up to the
--- marks on the way. The lines of those who came are told what their sessions answered. Batches are refused exactly where too much waits
--- for another site.
-pub record HasRounded {L : Type 0} {D : Type 0} {W : Type 0} (steps : W → Crossing → W → Type 0) (is_behind : W → Bool) (seen : L → ReadyValue) (gives : D → Option L → D → Type 0)
-    (time : ℕ) (doors : Doors L D) (port : PortValue) (ways : W) (marks : Marks) (doors_then : Doors L D) (port_then : PortValue) (ways_then : W) (marks_then : Marks) : Type 0 where
-  pub before : PortValue
-  pub passed : HasPassed steps (due marks time) port ways before ways_then
-  pub marked : AreMarked time port.site before.site marks marks_then
-  pub asked : Spans seen (IsStep Refuses) gives doors.idle doors.door doors.hall.places.places.items (record before { behind = is_behind ways_then }) doors_then.door doors_then.hall.places.places.items port_then
+-- marks on the way. The lines of those who came are told what their sessions answered, and none says a byte more before that has settled
+-- too. Batches are refused exactly where too much waits for another site.
+pub record HasRounded {L : Type 0} {D : Type 0} {W : Type 0} {K : Type 0} (settles : SessionsValue K → Result (Unit {0}) Fault → SessionsValue K → Type 0) (crosses : W → Crossing → W → Type 0) (is_behind : W → Bool) (seen : L → ReadyValue) (gives : D → Option L → D → Type 0)
+    (time : ℕ) (doors : Doors L D) (port : SessionsValue K) (ways : W) (marks : Marks) (doors_then : Doors L D) (port_then : SessionsValue K) (ways_then : W) (marks_then : Marks) (result : Result (Unit {0}) Fault) : Type 0 where
+  pub before : SessionsValue K
+  pub passed : SettlesFirst settles crosses (due marks time) port ways before ways_then
+  pub marked : AreMarked time port.site.site before.site.site marks marks_then
+  pub asked : Spans seen (IsStep Refuses) gives doors.idle doors.door doors.hall.places.places.items (port_of (record before { behind = is_behind ways_then })) doors_then.door doors_then.hall.places.places.items (port_of port_then)
+  pub told : RoundSettled seen kept_of settles doors.hall.places.places.items (record before { behind = is_behind ways_then }) doors_then.hall.places.places.items port_then result

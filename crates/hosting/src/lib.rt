@@ -7,4 +7,5 @@ mod crossing;
 mod marks;
 mod node;
 
+pub use crossing::send_all;
 pub use node::Node;

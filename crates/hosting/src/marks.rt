@@ -1,8 +1,10 @@
 //! Collections of a site's shards, each up to what their clocks were at the last one.
 ghost use Rattle.std.specs.Prelude.{◌≡◌, [], true, IfOk, OnOk, IfSome};
 ghost use Rattle.site_port.specs.Collecting.{clocks_of, HasCollected};
+ghost use Rattle.site_port.specs.Port.{kept_of};
 ghost use Rattle.hosting.specs.Rounds.{is_due, due};
 
+use disk::Disk;
 use logical_time::{Fault, Time};
 use site_port::SiteSessions;
 use std::alloc::Global;
@@ -42,14 +44,15 @@ impl Marks {
 
 /// Where it is time, the shards collect up to the marks; gives the marks that they have then. Where there is no memory for these nothing
 /// is collected, and it is time again. Refused as the port refuses the collection.
-pub(crate) fn collect_due(
-    port: &mut SiteSessions<Actor>,
+pub(crate) fn collect_due<K: Disk>(
+    port: &mut SiteSessions<Actor, K>,
     marks: &Marks,
     time: u64,
 ) -> Result<Option<Marks>, Fault>
-    ensures collected { OnOk result (HasCollected (due marks.now time) port.old.site port.old.late port.new.site port.new.late) }
+    ensures collected { OnOk result (HasCollected (due marks.now time) port.old.site.site port.old.late port.new.site.site port.new.late) }
     ensures stays { (port.new.waiting ≡ port.old.waiting) × (port.new.behind ≡ port.old.behind) }
-    ensures marked { IfOk result (λ o. IfSome o (λ m. (is_due marks.now time ≡ true) × (m.taken ≡ time) × (m.clocks.items ≡ clocks_of port.old.site))) }
+    ensures kept { kept_of port.new ≡ kept_of port.old }
+    ensures marked { IfOk result (λ o. IfSome o (λ m. (is_due marks.now time ≡ true) × (m.taken ≡ time) × (m.clocks.items ≡ clocks_of port.old.site.site))) }
 {
     if !marks.are_due(time) {
         return Ok(None);

@@ -2,14 +2,16 @@
 ghost use Rattle.std.specs.Prelude.{◌≡◌, ◌⊎◌, [], All, None, true, IfOk, OnOk, OnErr, IsErr, length};
 ghost use Rattle.std.specs.Option.{unwrap_or};
 ghost use Rattle.doors.specs.Rounds.{IsSound};
-ghost use Rattle.hosting.specs.Rounds.{due, AreMarked, HasPassed, HasRounded};
+ghost use Rattle.hosting.specs.Rounds.{due, AreMarked, SettlesFirst, HasRounded};
+ghost use Rattle.site_port.specs.Port.{Settles};
 ghost use Rattle.sites.specs.Answers.{AnswersAreMeant};
 
-use crate::crossing::{hear_all, send_all};
+use crate::crossing::{MOST, hear_all, send_all};
 use crate::marks::{Marks, collect_due};
+use disk::Disk;
 use doors::{Doors, Doorway, Ended, ReadySocket, Sockets};
 use logical_time::Fault;
-use readiness::ReadyLine;
+use readiness::{ReadyLine, SharedPort};
 use site_port::SiteSessions;
 use sites::answers_of_sites;
 use std::alloc::Global;
@@ -21,9 +23,9 @@ const MOST_TURNS: u64 = 1_000_000;
 
 /// Doors, the site of one data centre whose sessions answer those who come by the doors, and the ways to other sites. It must be
 /// closed.
-pub struct Node<W, L = ReadySocket, D = Sockets> {
+pub struct Node<W, K: Disk, L = ReadySocket, D = Sockets> {
     doors: Doors<L, D>,
-    port: SiteSessions<Actor>,
+    port: SiteSessions<Actor, K>,
     ways: W,
     marks: Marks,
 }
@@ -37,36 +39,37 @@ fn renew(marks: &mut Marks, fresh: Option<Marks>)
     }
 }
 
-// The site hears what came, and handles what waits; its shards collect, where it is time; and it gives what is to go.
-fn pass<W: Ways>(
-    port: &mut SiteSessions<Actor>,
+// The site hears what came, and handles what waits; its shards collect, where it is time; all that settles; and it gives what is to go.
+fn pass<W: Ways, K: Disk>(
+    port: &mut SiteSessions<Actor, K>,
     ways: &mut W,
     marks: &mut Marks,
     time: u64,
 ) -> Result<(), Fault>
-    ensures passed { OnOk result (HasPassed W.steps (due marks.old time) port.old ways.old port.new ways.new) }
-    ensures marked { OnOk result (AreMarked time port.old.site port.new.site marks.old marks.new) }
+    ensures passed { OnOk result (SettlesFirst (Settles K.seen K.may_leave K.failed K.moment K.left_since) W.steps (due marks.old time) port.old ways.old port.new ways.new) }
+    ensures marked { OnOk result (AreMarked time port.old.site.site port.new.site.site marks.old marks.new) }
     ensures unmarked { OnErr result (marks.new ≡ marks.old) }
 {
     ways.exchange(time)?;
     hear_all(port, ways)?;
     port.turn(MOST_TURNS)?;
     let fresh = collect_due(port, marks, time)?;
-    send_all(port, ways)?;
-    ways.exchange(time)?;
+    port.settle()?;
+    send_all(port, ways, MOST)?;
+    ways.flush(time)?;
     renew(marks, fresh);
     Ok(())
 }
 
 // The site passes on; and then the doors have a round.
-fn go_round<W: Ways, L: ReadyLine + Drop, D: Doorway<L> + Drop>(
+fn go_round<W: Ways, K: Disk, L: ReadyLine + Drop, D: Doorway<L> + Drop>(
     doors: &mut Doors<L, D>,
-    port: &mut SiteSessions<Actor>,
+    port: &mut SiteSessions<Actor, K>,
     ways: &mut W,
     marks: &mut Marks,
     time: u64,
 ) -> Result<(), Fault>
-    ensures rounded { HasRounded W.steps W.behind L.seen D.steps time doors.old port.old ways.old marks.old doors.new port.new ways.new marks.new ⊎ (IsErr result × (doors.new ≡ doors.old) × (marks.new ≡ marks.old)) }
+    ensures rounded { HasRounded (Settles K.seen K.may_leave K.failed K.moment K.left_since) W.steps W.behind L.seen D.steps time doors.old port.old ways.old marks.old doors.new port.new ways.new marks.new result ⊎ (IsErr result × (doors.new ≡ doors.old) × (marks.new ≡ marks.old)) }
     ensures count { length doors.new.hall.places.places.items ≡ length doors.old.hall.places.places.items }
 {
     pass(port, ways, marks, time)?;
@@ -74,16 +77,16 @@ fn go_round<W: Ways, L: ReadyLine + Drop, D: Doorway<L> + Drop>(
     doors.round(port, time)
 }
 
-impl<W: Ways + Drop, L: ReadyLine + Drop, D: Doorway<L> + Drop> Node<W, L, D> {
+impl<W: Ways + Drop, K: Disk + Drop, L: ReadyLine + Drop, D: Doorway<L> + Drop> Node<W, K, L, D> {
     /// A node of this site, whose clients come by this door, and which has a place for each of its sessions. A round waits for no more than
     /// so many milliseconds. Refused with `Memory`; then the site is closed.
     pub fn new(
         alloc: Global,
         door: D,
-        port: SiteSessions<Actor>,
+        port: SiteSessions<Actor, K>,
         ways: W,
         longest: u64,
-    ) -> Result<Node<W, L, D>, Fault>
+    ) -> Result<Node<W, K, L, D>, Fault>
         ensures made { IfOk result (λ n. (n.port ≡ port) × (n.ways ≡ ways) × (n.doors.door ≡ door)) }
         ensures unmarked { IfOk result (λ n. (n.marks.clocks.items ≡ []) × (n.marks.taken ≡ 0)) }
         ensures count { IfOk result (λ n. length n.doors.hall.places.places.items ≡ length port.waiting) }
@@ -105,8 +108,8 @@ impl<W: Ways + Drop, L: ReadyLine + Drop, D: Doorway<L> + Drop> Node<W, L, D> {
         }
     }
 
-    /// A round, which begins at this time, in milliseconds: the site hears what came from others, handles what waits and gives what is to
-    /// go; then each connection that is ready is answered by the session of its place. Refused as the doors, the site and the ways are;
+    /// A round, which begins at this time, in milliseconds: the site hears what came from others, handles what waits, and gives what is to
+    /// go once all that is on the disk for good, where a log is kept; then each connection that is ready is answered by the session of its place, once that is. Refused as the doors, the site and the ways are;
     /// then no further round should be asked for.
     ///
     /// Before it gives anything, and where 5,000 ms have passed since the last time, the shards collect up to what their clocks were then.
@@ -114,9 +117,9 @@ impl<W: Ways + Drop, L: ReadyLine + Drop, D: Doorway<L> + Drop> Node<W, L, D> {
     /// older goes. Where memory is refused for that nothing is lost: it is tried again. Where the time stays 0 nothing is collected.
     pub fn round(&mut self, time: u64) -> Result<(), Fault>
         // also where the doors are refused; or it is refused before anybody was asked
-        ensures rounded { HasRounded W.steps W.behind L.seen D.steps time self.old.doors self.old.port self.old.ways self.old.marks self.new.doors self.new.port self.new.ways self.new.marks ⊎ (IsErr result × (self.new.doors ≡ self.old.doors) × (self.new.marks ≡ self.old.marks)) }
+        ensures rounded { HasRounded (Settles K.seen K.may_leave K.failed K.moment K.left_since) W.steps W.behind L.seen D.steps time self.old.doors self.old.port self.old.ways self.old.marks self.new.doors self.new.port self.new.ways self.new.marks result ⊎ (IsErr result × (self.new.doors ≡ self.old.doors) × (self.new.marks ≡ self.old.marks)) }
         // while the site is sound, each operation that ended at it means its request, in each run that has its journals
-        ensures meant { self.new.port.site.sound ≡ true → AnswersAreMeant self.new.port.site.top self.new.port.site.dc self.new.port.site.story }
+        ensures meant { self.new.port.site.site.sound ≡ true → AnswersAreMeant self.new.port.site.site.top self.new.port.site.site.dc self.new.port.site.site.story }
         ensures count { length self.new.doors.hall.places.places.items ≡ length self.old.doors.hall.places.places.items }
     {
         let went = go_round(

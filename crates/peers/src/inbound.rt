@@ -20,11 +20,11 @@ impl Model for Inbound {
 }
 
 impl Inbound {
-    /// The end of a link over which nothing came.
-    pub fn new() -> Inbound
-        ensures { result ≡ 0 }
+    /// The end of a link from which so many parcels were taken.
+    pub fn after(taken: u64) -> Inbound
+        ensures { result ≡ taken }
     {
-        Inbound { next: 0 }
+        Inbound { next: taken }
     }
 
     /// The number of the parcel that it wants next: all below it were taken.

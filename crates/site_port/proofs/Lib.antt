@@ -1,4 +1,5 @@
 pub mod Lists
+pub mod Staying
 pub mod Turning
 pub mod Growing
 pub mod Places

@@ -15,6 +15,11 @@ use Rattle.actors.specs.Machines.{Refuses}
 use Rattle.site.specs.Story.{Story, Happening, Did, Heard, Given, is_here, journal, outcomes}
 use Rattle.site.specs.Sites.{SiteValue}
 use Rattle.site.specs.Turns.{goes_on, IsRefused}
+use Rattle.site.specs.Steps.{steps}
+use Rattle.durable_site.specs.Kept.{DurableSiteValue, is_kept}
+use Rattle.durable_site.specs.declared.identity.Identity.{Identity}
+use Rattle.durable_site.specs.Logged.{whose_of}
+use Rattle.durable_site.specs.Settled.{SettlesLog}
 use Rattle.site_port.specs.declared.waiting.Late.{Late}
 use Rattle.site_port.specs.declared.waiting.Waiting.{Waiting}
 use Rattle.site.specs.Ends.{op_at, HasEnded}
@@ -34,6 +39,30 @@ pub record PortValue : Type 0 where
   pub late : List Late
   -- whether batches are refused, since too much waits for another site
   pub behind : Bool
+
+-- The sessions of a site, and what is kept of it for good.
+pub record SessionsValue (D : Type 0) : Type 0 where
+  pub site : DurableSiteValue D
+  pub waiting : List (Option Waiting)
+  pub late : List Late
+  pub behind : Bool
+
+-- these, but for what is kept
+abbrev pub port_of : {D : Type 0} → SessionsValue D → PortValue
+port_of p = record { site = p.site.site; waiting = p.waiting; late = p.late; behind = p.behind }
+
+-- what is kept of them for good, and whose it is
+abbrev pub kept_of : {D : Type 0} → SessionsValue D → Option (ℕ × D) × Identity
+kept_of p = (is_kept p.site, p.site.identity)
+
+-- it stays
+abbrev pub StaysKept : {D : Type 0} → DurableSiteValue D → DurableSiteValue D → Type 0
+StaysKept old new = (is_kept new ≡ is_kept old) × (new.identity ≡ old.identity)
+
+-- They settle: nothing is asked, and the site's log, if there is one, keeps all its steps for good.
+abbrev pub Settles : {D : Type 0} → (D → Option (List ℕ)) → (D → List ℕ → Type 0) → (D → Bool) → (D → ℕ) → (D → ℕ → List ℕ → Type 0) → SessionsValue D → Result (Unit {0}) Fault → SessionsValue D → Type 0
+Settles seen may_leave failed moment left_since old went new =
+    SettlesLog seen may_leave failed moment left_since (whose_of old.site.identity) (steps old.site.site.story) (is_kept old.site) went (is_kept new.site) × (new.site.identity ≡ old.site.identity) × (port_of new ≡ port_of old)
 
 -- ## A request where nothing is open
 

@@ -3,23 +3,25 @@ ghost use Rattle.std.specs.Prelude.{◌≡◌, ◌<◌, ◌-◌, ◌^◌, min, t
 ghost use Rattle.messages.specs.Topology.{shard_node, is_shard};
 ghost use Rattle.site.specs.Story.{is_here};
 ghost use Rattle.site_port.specs.Collecting.{clocks_of, MayHaveCollected, IsBroken, HasCollected, HasBrokenOff};
+ghost use Rattle.site_port.specs.Port.{StaysKept};
 
 use crate::turns::tell;
 use crate::waiting::Late;
 use actors::Machine;
+use disk::Disk;
+use durable_site::DurableSite;
 use logical_time::{Fault, Node, Shard, Time};
-use site::Site;
 use std::alloc::Global;
 
 /// The last time that there is.
 const LAST: u64 = 0xffff_ffff_ffff;
 
 // The node of a shard of a site's data centre.
-fn node_of<M: Machine>(site: &Site<M>, shard: u16) -> Node
-    requires { shard < site.now.top.shards }
-    ensures node { result ≡ shard_node site.now.top site.now.dc shard }
-    ensures shard { is_shard site.now.top result ≡ true }
-    ensures here { is_here site.now.top site.now.dc result ≡ true }
+fn node_of<M: Machine, D: Disk>(site: &DurableSite<M, D>, shard: u16) -> Node
+    requires { shard < site.now.site.top.shards }
+    ensures node { result ≡ shard_node site.now.site.top site.now.site.dc shard }
+    ensures shard { is_shard site.now.site.top result ≡ true }
+    ensures here { is_here site.now.site.top site.now.site.dc result ≡ true }
 {
     let home = site.topology().home(site.dc());
     match Shard::new(shard) {
@@ -40,8 +42,11 @@ fn time_of(clock: u64) -> Time
 
 /// The clocks of the shards that are here, in the order of their nodes; where one is spent, the last time that there is. Refused with
 /// `Memory` alone.
-pub(crate) fn clocks_here<M: Machine>(alloc: Global, site: &Site<M>) -> Result<Vec<Time>, Fault>
-    ensures clocks { IfOk result (λ list. list.items ≡ clocks_of site.now) }
+pub(crate) fn clocks_here<M: Machine, D: Disk>(
+    alloc: Global,
+    site: &DurableSite<M, D>,
+) -> Result<Vec<Time>, Fault>
+    ensures clocks { IfOk result (λ list. list.items ≡ clocks_of site.now.site) }
     ensures memory { IfErr result (λ e. e ≡ Fault.Memory) }
 {
     let mut clocks = Vec::new(alloc);
@@ -54,18 +59,19 @@ pub(crate) fn clocks_here<M: Machine>(alloc: Global, site: &Site<M>) -> Result<V
 
 // A shard collects up to its time among these. It stays as it is where it has none, where memory is refused, and where its machine
 // refuses it. Refused with `StrangerEnd` where the site isn't sound, or is no longer.
-fn collect_one<M: Machine>(
+fn collect_one<M: Machine, D: Disk>(
     alloc: Global,
-    site: &mut Site<M>,
+    site: &mut DurableSite<M, D>,
     late: &mut Vec<Late>,
     shard: u16,
     times: &[Time],
 ) -> Result<(), Fault>
-    requires { shard < site.old.top.shards }
-    ensures collected { OnOk result (MayHaveCollected shard times.now site.old late.old.items site.new late.new.items) }
-    ensures broken { OnErr result (IsBroken shard times.now site.old site.new) }
+    requires { shard < site.old.site.top.shards }
+    ensures collected { OnOk result (MayHaveCollected shard times.now site.old.site late.old.items site.new.site late.new.items) }
+    ensures broken { OnErr result (IsBroken shard times.now site.old.site site.new.site) }
     ensures same { OnErr result (late.new.items ≡ late.old.items) }
     ensures stranger { IfErr result (λ e. e ≡ Fault.StrangerEnd) }
+    ensures kept { StaysKept site.old site.new }
 {
     let Some(time) = times.get(usize::from(shard)) else {
         return Ok(());
@@ -91,16 +97,17 @@ fn collect_one<M: Machine>(
 /// Each shard that is here, in the order of their nodes, collects up to the time that it has among these. One stays as it is where it
 /// has none, where memory is refused, and where its machine refuses it. What ended is put behind the ends in `late`. Costs what the
 /// collections do. Refused with `StrangerEnd` where the site isn't sound, or is no longer: then the rest stay as they are.
-pub(crate) fn collect_all<M: Machine>(
+pub(crate) fn collect_all<M: Machine, D: Disk>(
     alloc: Global,
-    site: &mut Site<M>,
+    site: &mut DurableSite<M, D>,
     late: &mut Vec<Late>,
     times: &[Time],
 ) -> Result<(), Fault>
-    ensures collected { OnOk result (HasCollected times.now site.old late.old.items site.new late.new.items) }
-    ensures sound { OnOk result (site.old.sound ≡ true → site.new.sound ≡ true) }
-    ensures broken { OnErr result (HasBrokenOff times.now site.old late.old.items site.new late.new.items) }
+    ensures collected { OnOk result (HasCollected times.now site.old.site late.old.items site.new.site late.new.items) }
+    ensures sound { OnOk result (site.old.site.sound ≡ true → site.new.site.sound ≡ true) }
+    ensures broken { OnErr result (HasBrokenOff times.now site.old.site late.old.items site.new.site late.new.items) }
     ensures stranger { IfErr result (λ e. e ≡ Fault.StrangerEnd) }
+    ensures kept { StaysKept site.old site.new }
 {
     for shard in 0..site.topology().shards().get() {
         collect_one(alloc, site, late, shard, times)?;

@@ -4,12 +4,15 @@ ghost use Rattle.std.specs.Vec.{vec_len, vec_capacity};
 ghost use Rattle.site.specs.Story.{Happening, handled, arrivals};
 ghost use Rattle.site.specs.Turns.{IsTurnRefused};
 ghost use Rattle.site_port.specs.Ends.{IsHandling, GoesOnWith, AreTold, HasTurns, HasStopped, end_by, ends_in, is_awaited as is_awaited_end};
+ghost use Rattle.site_port.specs.Port.{StaysKept};
 
 use crate::waiting::Late;
 use actors::Machine;
+use disk::Disk;
+use durable_site::DurableSite;
 use logical_time::{Fault, Node};
 use messages::Outcome;
-use site::{Site, Turn};
+use site::Turn;
 use std::alloc::Global;
 
 // Whether this is the operation that is awaited.
@@ -47,17 +50,18 @@ pub(crate) fn tell(
 }
 
 // A turn of a site. What it ends is kept, but for what is awaited. Gives whether something was handled, and how what is awaited ended.
-fn one_turn<M: Machine>(
+fn one_turn<M: Machine, D: Disk>(
     alloc: Global,
-    site: &mut Site<M>,
+    site: &mut DurableSite<M, D>,
     late: &mut Vec<Late>,
     awaited: &Option<(Node, u64)>,
 ) -> Result<(bool, Option<Outcome>), Fault>
-    ensures went { IfOk result (λ r. r.0 ≡ true → (h : Happening) × IsHandling h × GoesOnWith site.old (h ∷ []) site.new × AreTold awaited.now (ends_in (h ∷ [])) late.old.items r.1 late.new.items) }
-    ensures rests { IfOk result (λ r. r.0 ≡ false → (site.new ≡ site.old) × (late.new.items ≡ late.old.items) × (r.1 ≡ None) × (handled site.old.story ≡ arrivals site.old.top site.old.dc site.old.story)) }
-    ensures sound { OnOk result (site.new.sound ≡ true) }
-    ensures refused { IfErr result (λ e. IsTurnRefused M.refuses site.old e site.new) }
+    ensures went { IfOk result (λ r. r.0 ≡ true → (h : Happening) × IsHandling h × GoesOnWith site.old.site (h ∷ []) site.new.site × AreTold awaited.now (ends_in (h ∷ [])) late.old.items r.1 late.new.items) }
+    ensures rests { IfOk result (λ r. r.0 ≡ false → (site.new.site ≡ site.old.site) × (late.new.items ≡ late.old.items) × (r.1 ≡ None) × (handled site.old.site.story ≡ arrivals site.old.site.top site.old.site.dc site.old.site.story)) }
+    ensures sound { OnOk result (site.new.site.sound ≡ true) }
+    ensures refused { IfErr result (λ e. IsTurnRefused M.refuses site.old.site e site.new.site) }
     ensures same { OnErr result (late.new.items ≡ late.old.items) }
+    ensures kept { StaysKept site.old site.new }
 {
     late.reserve(1)?;
     match site.turn(alloc)? {
@@ -73,16 +77,17 @@ fn one_turn<M: Machine>(
 
 /// Takes turns of a site until the operation that is awaited has ended, nothing waits, or so many turns were taken. Gives how it
 /// ended; the ends of others are put behind those in `late`. Costs what the turns do. Refused as a turn is.
-pub(crate) fn take_turns<M: Machine>(
+pub(crate) fn take_turns<M: Machine, D: Disk>(
     alloc: Global,
-    site: &mut Site<M>,
+    site: &mut DurableSite<M, D>,
     late: &mut Vec<Late>,
     awaited: &Option<(Node, u64)>,
     most: u64,
 ) -> Result<Option<Outcome>, Fault>
-    ensures took { IfOk result (λ told. HasTurns awaited.now most site.old late.old.items told site.new late.new.items) }
-    ensures sound { OnOk result (site.old.sound ≡ true → site.new.sound ≡ true) }
-    ensures stopped { IfErr result (λ e. HasStopped M.refuses awaited.now site.old late.old.items e site.new late.new.items) }
+    ensures took { IfOk result (λ told. HasTurns awaited.now most site.old.site late.old.items told site.new.site late.new.items) }
+    ensures sound { OnOk result (site.old.site.sound ≡ true → site.new.site.sound ≡ true) }
+    ensures stopped { IfErr result (λ e. HasStopped M.refuses awaited.now site.old.site late.old.items e site.new.site late.new.items) }
+    ensures kept { StaysKept site.old site.new }
 {
     for _taken in 0..most {
         let (went, ended) = one_turn(alloc, site, late, awaited)?;

@@ -36,4 +36,8 @@ pub trait Ways {
     /// Reads and writes what can be without waiting, at a time in milliseconds. Refused with `Memory`, and as the world refuses it.
     fn exchange(&mut self, time: u64) -> Result<(), Fault>
         ensures { OnOk result (steps self.old Nothing self.new) };
+
+    /// Writes what can be without waiting, at a time in milliseconds. Refused with `Memory`, and as the world refuses it.
+    fn flush(&mut self, time: u64) -> Result<(), Fault>
+        ensures { OnOk result (steps self.old Nothing self.new) };
 }

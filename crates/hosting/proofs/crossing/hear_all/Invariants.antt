@@ -1,7 +1,13 @@
-use Rattle.std.proofs.Common.{[]}
+use Rattle.std.proofs.Common.{[], ◌≡◌}
+use Rattle.site.specs.Story.{given}
+use Rattle.site_port.specs.Port.{port_of, kept_of}
 use Rattle.hosting.specs.Rounds.{HasPassed}
 use Rattle.hosting.proofs.crossing.hear_all.Given as goal
 
 -- what came so far was heard, or refused
 abbrev pub invariant-loop-heard : goal.invariant-loop-heard
-invariant-loop-heard g l = HasPassed g.W.Ways.steps [] l.fn.port l.fn.ways l.port l.ways
+invariant-loop-heard g l = record {
+  heard : HasPassed g.W.Ways.steps [] (port_of l.fn.port) l.fn.ways (port_of l.port) l.ways;
+  ungiven : given l.port.site.site.story ≡ given l.fn.port.site.site.story;
+  kept : kept_of l.port ≡ kept_of l.fn.port;
+}

@@ -1,23 +1,42 @@
-use Rattle.std.proofs.Common.{[], ◌≡◌, ◌∙◌, ap, sym, subst}
-use Rattle.site.specs.Story.{site_of}
+use Rattle.std.proofs.Common.{[], ◌≡◌, ◌∙◌, true, false, length, ap, sym, subst}
+use Rattle.site.specs.Story.{site_of, given as given_in}
+use Rattle.site.specs.Steps.{steps}
 use Rattle.site.specs.Sites.{SiteValue}
 use Rattle.site.specs.Turns.{HasGiven}
-use Rattle.hosting.specs.Rounds.{HasPassed}
-use Rattle.hosting.proofs.Passing.{passed_none, passed_gift}
+use Rattle.site_port.specs.Port.{port_of, kept_of}
+use Rattle.hosting.specs.Rounds.{AreGiven, HasPassed}
+use Rattle.hosting.proofs.Passing.{passed_none, passed_gift, giving_is_no_step, one_gift_more}
 use Rattle.hosting.proofs.crossing.send_one.Goals as goal
+
+false_true : false ≡ true → ⊥
+false_true q = cc
+
+true_false : true ≡ false → ⊥
+true_false q = cc
 
 pub returns-in_default : goal.returns-in_default
 returns-in_default g c =
-    let none = subst (λ o. HasGiven c.args.port.now.site o c.give.new.self.site) c.in_default.is c.in_ok-envelope.ensures.given in
-    let same : c.give.new.self ≡ c.args.port.now = c.in_ok-envelope.ensures.stays ∙ ap (λ (s : SiteValue). record c.args.port.now { site = s }) none.0 in
-    record { sent = subst (λ q. HasPassed g.W.Ways.steps [] c.args.port.now c.args.ways.now q c.args.ways.now) (sym same) (passed_none g.W.Ways.steps [] c.args.port.now c.args.ways.now) }
+    let none = subst (λ o. HasGiven c.args.port.now.site.site o c.give.new.self.site.site) c.in_default.is c.in_ok-envelope.ensures.given in
+    let same : c.give.new.self ≡ c.args.port.now = c.in_ok-envelope.ensures.stays ∙ ap (λ (s : SiteValue). record c.args.port.now { site = record c.args.port.now.site { site = s } }) none.0 in
+    record {
+      sent = subst (λ q. HasPassed g.W.Ways.steps [] (port_of c.args.port.now) c.args.ways.now (port_of q) c.args.ways.now) (sym same) (passed_none g.W.Ways.steps [] (port_of c.args.port.now) c.args.ways.now);
+      more = λ is. absurd (false_true is);
+      none = λ _. subst (λ q. AreGiven (port_of q)) (sym same) none.1;
+      undone = ap (λ p. steps p.site.site.story) same;
+      kept = ap kept_of same;
+    }
 
 pub returns : goal.returns
 returns g c =
-    let given = subst (λ o. HasGiven c.args.port.now.site o c.give.new.self.site) c.in-Some.is c.in_ok-envelope.ensures.given in
+    let given = subst (λ o. HasGiven c.args.port.now.site.site o c.give.new.self.site.site) c.in-Some.is c.in_ok-envelope.ensures.given in
     let top = ap (λ (s : SiteValue). s.top) given.2 in
-    let there : c.site_of-to.result ≡ site_of c.args.port.now.site.top c.in-Some.envelope.to =
-    c.site_of-to.ensures ∙ ap (λ t. site_of t c.in-Some.envelope.to) (c.topology.ensures.value ∙ (ap (λ (s : SiteValue). s.top) c.site.ensures ∙ top)) in
+    let there : c.site_of-to.result ≡ site_of c.args.port.now.site.site.top c.in-Some.envelope.to =
+    c.site_of-to.ensures ∙ ap (λ t. site_of t c.in-Some.envelope.to) (c.topology.ensures.value ∙ (ap (λ s. s.site.top) c.site.ensures ∙ top)) in
     record {
-      sent = passed_gift g.W.Ways.steps c.args.port.now c.give.new.self c.args.ways.now c.send.new.self c.site_of-to.result c.in-Some.envelope given c.in_ok-envelope.ensures.stays there c.in_ok-send.ensures.sent;
+      sent = passed_gift g.W.Ways.steps (port_of c.args.port.now) (port_of c.give.new.self) c.args.ways.now c.send.new.self c.site_of-to.result c.in-Some.envelope given (ap port_of c.in_ok-envelope.ensures.stays) there
+          c.in_ok-send.ensures.sent;
+      more = λ _. ap (λ (s : SiteValue). length (given_in s.story)) given.2 ∙ one_gift_more c.args.port.now.site.site.story c.in-Some.envelope;
+      none = λ is. absurd (true_false is);
+      undone = ap (λ (s : SiteValue). steps s.story) given.2 ∙ giving_is_no_step c.args.port.now.site.site.story c.in-Some.envelope;
+      kept = ap kept_of c.in_ok-envelope.ensures.stays;
     }

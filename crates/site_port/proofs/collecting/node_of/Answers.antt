@@ -7,7 +7,7 @@ use Rattle.site_port.proofs.collecting.node_of.Goals as goal
 
 pub returns-clause-here : goal.returns-clause-here
 returns-clause-here g c =
-    let site = c.args.site.now in
+    let site = c.args.site.now.site in
     let shard = c.in-Some.shard in
     let at : c.node_of.result ≡ shard_node site.top site.dc c.args.shard =
     c.node_of.ensures

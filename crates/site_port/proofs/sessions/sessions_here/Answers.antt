@@ -6,7 +6,7 @@ use Rattle.site_port.proofs.sessions.sessions_here.Goals as goal
 
 pub loop-index-preserved : goal.loop-index-preserved
 loop-index-preserved g c =
-    let site = c.args.site.now in
+    let site = c.args.site.now.site in
     let i = c.loop-index.index in
     let listed = c.loop-index.here.items in
     let topology = c.topology-topology.ensures.value in

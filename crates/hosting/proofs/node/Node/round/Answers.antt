@@ -7,6 +7,6 @@ pub returns-clause-meant : goal.returns-clause-meant
 returns-clause-meant g c = λ sound.
     let here = c.site.ensures in
     let told = c.is_sound-sound.ensures in
-    let all : IsSiteStory c.site.result.now.top c.site.result.now.dc c.site.result.now.story = (told.story, told.sound (told.value ∙ (ap (λ (s : SiteValue). s.sound) here ∙ sound))) in
-    let moved = subst (λ (s : SiteValue). IsSiteStory s.top s.dc s.story) here all in
-    c.answers_of_sites.ensures.alone c.go_round-went.new.port.site.top c.go_round-went.new.port.site.dc c.go_round-went.new.port.site.story moved
+    let all : IsSiteStory c.site.result.now.site.top c.site.result.now.site.dc c.site.result.now.site.story = (told.story, told.sound (told.value ∙ (ap (λ s. s.site.sound) here ∙ sound))) in
+    let moved = subst (λ (s : SiteValue). IsSiteStory s.top s.dc s.story) (ap (λ s. s.site) here) all in
+    c.answers_of_sites.ensures.alone c.go_round-went.new.port.site.site.top c.go_round-went.new.port.site.site.dc c.go_round-went.new.port.site.site.story moved
