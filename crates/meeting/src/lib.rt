@@ -10,5 +10,5 @@ mod peer;
 mod watcher;
 
 pub use meeting::{Meeting, Own};
-pub use peer::Peer;
+pub use peer::{Other, Peer};
 pub use watcher::{News, Watcher};

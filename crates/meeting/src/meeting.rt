@@ -3,7 +3,7 @@ ghost use Rattle.std.specs.Prelude.{◌≡◌};
 ghost use Rattle.meeting.specs.Peers.{is_one_behind};
 
 use crate::call::Call;
-use crate::peer::{Peer, is_behind};
+use crate::peer::{Other, Peer, is_behind};
 use crate::watcher::{News, Watcher};
 use hello::{Expected, Secret};
 use linking::{Channel, Heard, Trouble};
@@ -73,7 +73,7 @@ impl<'a, R: Net + RandomSource, N: Watcher + Drop> Meeting<'a, R, N> {
         registry: Registry,
         address: SocketAddr,
         own: Own,
-        others: &[(u16, SocketAddr)],
+        others: &[Other],
         watcher: N,
     ) -> Result<Meeting<'a, R, N>, Fault> {
         let Ok(mut listener) = TcpListener::bind(rt, address) else {
@@ -86,8 +86,8 @@ impl<'a, R: Net + RandomSource, N: Watcher + Drop> Meeting<'a, R, N> {
             return Err(Fault::ReadFailed);
         }
         let mut peers = Vec::new(alloc);
-        for (dc, address) in others {
-            peers.push(Peer::new(alloc, *dc, *address))?;
+        for other in others {
+            peers.push(Peer::new(alloc, other))?;
         }
         let mut buffer = Vec::new(alloc);
         buffer.resize(PIECE, 0)?;
@@ -116,6 +116,13 @@ impl<'a, R: Net + RandomSource, N: Watcher + Drop> Meeting<'a, R, N> {
     /// Whether each other site was met once, by what it called or by being called.
     pub fn have_met(&self) -> bool {
         self.peers.iter().all(|peer| self.was_met(peer.dc))
+    }
+
+    /// The process of the site of each data centre, by its number, that was met; none where none was.
+    pub fn met(&self) -> &[Option<[u8; 16]>]
+        ensures { result.now ≡ self.now.own.expected.met.items }
+    {
+        &self.own.expected.met
     }
 
     fn was_met(&self, dc: u16) -> bool {
@@ -294,6 +301,7 @@ impl<R: Net + RandomSource, N: Watcher + Drop> Ways for Meeting<'_, R, N> {
     }
 
     fn refuse(&mut self, from: u16) {
+        self.watcher.came(News::Refused(from));
         for peer in &mut self.peers {
             if peer.dc == from {
                 peer.refuse();
@@ -317,6 +325,13 @@ impl<R: Net + RandomSource, N: Watcher + Drop> Ways for Meeting<'_, R, N> {
             self.attend(index, time)?;
         }
         self.count(time);
+        Ok(())
+    }
+
+    fn flush(&mut self, time: u64) -> Result<(), Fault> {
+        for peer in &mut self.peers {
+            peer.write(time)?;
+        }
         Ok(())
     }
 }

@@ -21,6 +21,17 @@ const PAUSE: u64 = 1_000;
 
 const LONGEST: u64 = 30_000;
 
+/// Another site that is to be met.
+#[derive(Drop)]
+pub struct Other {
+    /// Its data centre.
+    pub dc: u16,
+    /// Where it listens for others.
+    pub address: SocketAddr,
+    /// How many of its parcels were taken before, by the process whose log this one goes on with.
+    pub taken: u64,
+}
+
 /// The site of another data centre.
 #[derive(Drop)]
 pub struct Peer {
@@ -44,20 +55,20 @@ pub struct Peer {
 
 impl Peer {
     /// A site that wasn't met yet.
-    pub(crate) fn new(alloc: Global, dc: u16, address: SocketAddr) -> Peer
-        ensures dc { result.dc ≡ dc }
+    pub(crate) fn new(alloc: Global, other: &Other) -> Peer
+        ensures dc { result.dc ≡ other.now.dc }
         ensures outbound { result.outbound ≡ record { first = 0; kept = [] } }
-        ensures inbound { result.inbound ≡ 0 }
+        ensures inbound { result.inbound ≡ other.now.taken }
     {
         Peer {
-            dc,
-            address,
+            dc: other.dc,
+            address: other.address,
             outbound: Outbound::new(alloc),
             calling: None,
             next: None,
             call_at: 0,
             pause: PAUSE,
-            inbound: Inbound::new(),
+            inbound: Inbound::after(other.taken),
             answering: None,
             told: 0,
             refused: false,
@@ -119,6 +130,9 @@ impl Peer {
         if self.refused {
             return Ok(());
         }
+        // it is there, so it is called at once
+        self.call_at = 0;
+        self.pause = PAUSE;
         let mut call = call;
         self.told = self.inbound.next();
         call.say_taken(self.told)?;
