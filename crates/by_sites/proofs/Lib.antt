@@ -1,0 +1,7 @@
+mod Lists
+mod Growing
+mod Telling
+mod Taking
+mod Quiet
+mod Keeping
+mod Concluding
