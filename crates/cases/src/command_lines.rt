@@ -55,8 +55,13 @@ fn add_node(joining: &Joining, seen: &mut String) -> Result<(), Fault> {
         dc,
         secret,
         behind,
+        data,
     } = joining;
-    Ok(write!(seen, "site {dc} of {name}, secret {secret}, {behind} bytes")?)
+    write!(seen, "site {dc} of {name}, secret {secret}, {behind} bytes")?;
+    if let Some(folder) = data {
+        write!(seen, ", log {folder}")?;
+    }
+    Ok(())
 }
 
 fn add_bounds(bounds: Bounds, seen: &mut String) -> Result<(), Fault> {
@@ -89,6 +94,7 @@ impl Subject for Line {
                 write!(seen, "{name} by {workers}")?;
                 add_audit(audit, seen)
             }
+            Asked::BySites { name } => Ok(write!(seen, "{name} by sites")?),
             Asked::Audit { name } => Ok(write!(seen, "the audit of {name}")?),
             Asked::Explore { name, bounds } => {
                 write!(seen, "orders of {name}")?;

@@ -1,4 +1,5 @@
 //! What a node is asked for.
+use crate::serving::data_of;
 use clap::{Arg, ArgAction, ArgMatches, Command, value_parser};
 use std::alloc::{AllocError, Global};
 
@@ -13,6 +14,8 @@ pub struct Joining {
     pub secret: String,
     /// How many bytes may wait for another site before batches are refused.
     pub behind: u64,
+    /// The folder of its log, if it keeps one.
+    pub data: Option<String>,
 }
 
 /// How many bytes may wait for another site where nothing is said: 256 MiB.
@@ -40,15 +43,25 @@ pub(crate) fn node_command<'a>(alloc: Global, file: Arg<'a>) -> Result<Command<'
         .help("Refuses batches while more than this waits for another site")
         .value_parser(value_parser!(u64).range(1..1_099_511_627_776))
         .default_value("268435456");
+    let data = Arg::new(alloc, "data")
+        .long("data")
+        .value_name("FOLDER")
+        .action(ArgAction::Set)
+        .help(
+            "Keeps a log in this folder, which is made where it is missing, and comes back from it",
+        );
     Command::new(alloc, "node")
         .about(
             "Serves the sessions of one data centre, and exchanges writes with the nodes of the others, until it is stopped",
         )
-        .after_help("Example: eiger node examples/nodes/three.json --dc 0 --secret secret")
+        .after_help(
+            "Example: eiger node examples/nodes/three.json --dc 0 --secret secret --data folder",
+        )
         .arg(file)?
         .arg(dc)?
         .arg(secret)?
-        .arg(behind)
+        .arg(behind)?
+        .arg(data)
 }
 
 /// The node that accepted words ask for.
@@ -62,5 +75,6 @@ pub(crate) fn joining_of(
         dc: found.get_one::<u16>("dc").unwrap_or(0),
         secret: String::from_str(alloc, found.get_str("secret").unwrap_or(""))?,
         behind: found.get_one::<u64>("behind").unwrap_or(USUAL_BEHIND),
+        data: data_of(alloc, found)?,
     })
 }

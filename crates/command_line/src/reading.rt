@@ -53,6 +53,11 @@ pub enum Asked {
         /// Whether the reads are audited.
         audit: bool,
     },
+    /// The transcript of what the sites of all data centres make of the script in the file of this name.
+    BySites {
+        /// The name.
+        name: String,
+    },
     /// The audit of the histories and reads that the file of this name records.
     Audit {
         /// The name.
@@ -137,15 +142,22 @@ fn run_command<'a>(alloc: Global) -> Result<Command<'a>, AllocError> {
         .value_name("N")
         .action(ArgAction::Set)
         .help("So many threads drive its shards and sessions, 1 to 16")
-        .required(true)
+        .required_unless_present("sites")?
         .value_parser(value_parser!(u16).range(1..17));
+    let sites = Arg::new(alloc, "sites")
+        .long("sites")
+        .action(ArgAction::SetTrue)
+        .help("Each data centre is a site by itself, in one process, with parcels in between")
+        .conflicts_with("workers")?
+        .conflicts_with("audit")?;
     Command::new(alloc, "run")
-        .about(
-            "Runs a script by threads, and prints what came of each operation, session by session",
+        .about("Runs a script by threads, or by sites, and prints what came of each operation")
+        .after_help(
+            "Examples: eiger run examples/insert_and_read_back.json --workers 2\n          eiger run examples/insert_and_read_back.json --sites",
         )
-        .after_help("Example: eiger run examples/insert_and_read_back.json --workers 2")
         .arg(file(alloc, SCRIPT))?
         .arg(workers)?
+        .arg(sites)?
         .arg(audit_flag(alloc))
 }
 
@@ -202,8 +214,13 @@ fn name_of(alloc: Global, found: &ArgMatches<'_>) -> Result<String, AllocError> 
     String::from_str(alloc, found.get_str("FILE").unwrap_or(""))
 }
 
-// The run by threads that is asked for.
+// The run by threads, or by sites, that is asked for.
 fn run_of(alloc: Global, found: &ArgMatches<'_>) -> Result<Asked, AllocError> {
+    if found.get_flag("sites") {
+        return Ok(Asked::BySites {
+            name: name_of(alloc, found)?,
+        });
+    }
     Ok(Asked::Run {
         name: name_of(alloc, found)?,
         workers: found.get_one::<u16>("workers").unwrap_or(1),

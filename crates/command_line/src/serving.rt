@@ -155,8 +155,8 @@ fn topology_of(alloc: Global, found: &ArgMatches<'_>) -> Result<Option<Topology>
     }
 }
 
-// The folder of the log that is asked for, if one is.
-fn data_of(alloc: Global, found: &ArgMatches<'_>) -> Result<Option<String>, AllocError> {
+/// The folder of the log that is asked for, if one is.
+pub(crate) fn data_of(alloc: Global, found: &ArgMatches<'_>) -> Result<Option<String>, AllocError> {
     match found.get_str("data") {
         Some(folder) => Ok(Some(String::from_str(alloc, folder)?)),
         None => Ok(None),

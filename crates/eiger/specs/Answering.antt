@@ -5,7 +5,7 @@ use Rattle.program.specs.declared.input.Input.{Input}
 use Rattle.program.specs.declared.output.Output.{Output}
 use Rattle.program.specs.Telling.{Tells}
 use Rattle.command_line.specs.declared.reading.Asked.{Asked}
-use Rattle.command_line.specs.declared.reading.Asked.TheVariants.{Sim, History, Trace, Run, Audit, Explore, Serve, Node, Log, Told}
+use Rattle.command_line.specs.declared.reading.Asked.TheVariants.{Sim, History, Trace, Run, BySites, Audit, Explore, Serve, Node, Log, Told}
 use Rattle.command_line.specs.Told.{Answers}
 use Rattle.workload.specs.Audited.{IsToldFor}
 use Rattle.workload.specs.Performing.{IsRefused, Prints, Ends, TellsUnread}
@@ -14,6 +14,7 @@ use Rattle.recorded.specs.Recording.{IsHistoryFor, IsUnrecorded}
 use Rattle.tracing.specs.Traced.{IsTraceFor}
 use Rattle.running.specs.Faults.{Brings}
 use Rattle.running.specs.Performing.{IsThreadTextFor, IsThreadRefused}
+use Rattle.by_sites.specs.Performing.{IsSitesTextFor, IsSitesRefused}
 use Rattle.explore.specs.Exploration.{IsExplorationFor, IsUnexplored}
 use Rattle.logfile.specs.Told.{IsLogTextFor, IsUntold}
 
@@ -78,6 +79,7 @@ module _ {R W E : Type 0} (remaining : R → Option (List ℕ)) (contents : W �
   IsAnswer brings (Ok (History name)) status old new told told' = Ran IsHistoryFor IsUnrecorded (string_bytes name) status old new told told'
   IsAnswer brings (Ok (Trace name)) status old new told told' = Ran IsTraceFor IsRefused (string_bytes name) status old new told told'
   IsAnswer brings (Ok (Run name workers audit)) status old new told told' = Ran (IsThreadTextFor audit) (IsThreadRefused brings) (string_bytes name) status old new told told'
+  IsAnswer brings (Ok (BySites name)) status old new told told' = Ran IsSitesTextFor IsSitesRefused (string_bytes name) status old new told told'
   IsAnswer brings (Ok (Audit name)) status old new told told' = Judged (string_bytes name) status old new told told'
   IsAnswer brings (Ok (Explore name bounds)) status old new told told' = Ran (IsExplorationFor bounds.lose) IsUnexplored (string_bytes name) status old new told told'
   IsAnswer brings (Ok (Serve s)) status old new told told' = IsServed written s.concurrent status told told'

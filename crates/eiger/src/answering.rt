@@ -5,12 +5,14 @@ ghost use Rattle.workload.specs.Performing.{IsRefused};
 ghost use Rattle.recorded.specs.Recording.{IsHistoryFor, IsUnrecorded};
 ghost use Rattle.tracing.specs.Traced.{IsTraceFor};
 ghost use Rattle.running.specs.Performing.{IsThreadTextFor, IsThreadRefused};
+ghost use Rattle.by_sites.specs.Performing.{IsSitesTextFor, IsSitesRefused};
 ghost use Rattle.explore.specs.Exploration.{IsExplorationFor, IsUnexplored};
 ghost use Rattle.logfile.specs.Told.{IsLogTextFor, IsUntold};
 ghost use Rattle.eiger.specs.Answering.{IsOpened, Ran, Judged, IsAnswer};
 
 use crate::joining::join;
 use crate::serving::serve;
+use by_sites::perform_by_sites;
 use command_line::{Asked, Bounds};
 use explore::{Limits, perform_exploration};
 use logfile::perform_log;
@@ -109,6 +111,19 @@ fn run<T: Threads + Wait + Sync, W: Buffered, E: Buffered>(
     perform_by_threads(threads, rt.alloc(), crew, audit, &mut input, output, errors)
 }
 
+// Has the sites of all data centres run a script.
+fn run_sites<W: Buffered, E: Buffered>(
+    rt: &HostRuntime,
+    name: String,
+    output: &mut Output<W>,
+    errors: &mut Output<E>,
+) -> u8
+    ensures { Ran ⟦<File as std::io::Read>⟧.remaining W.contents W.held E.contents IsSitesTextFor IsSitesRefused (string_bytes name) result output.old output.new errors.old errors.new }
+{
+    let mut input = opened(rt, name);
+    perform_by_sites(rt.alloc(), &mut input, output, errors)
+}
+
 // Looks at a log, or writes the record of what it tells.
 fn log<W: Buffered, E: Buffered>(
     rt: &HostRuntime,
@@ -185,6 +200,7 @@ pub(crate) fn answer<T: Threads + Wait + Sync, W: Buffered, E: Buffered>(
         Ok(Asked::Run { name, workers, audit }) => {
             run(rt, threads, name, &crew(workers), audit, output, errors)
         }
+        Ok(Asked::BySites { name }) => run_sites(rt, name, output, errors),
         Ok(Asked::Audit { name }) => audit(rt, name, output, errors),
         Ok(Asked::Explore { name, bounds }) => explore(rt, threads, name, bounds, output, errors),
         Ok(Asked::Serve(serving)) => serve(rt, threads, &serving, output, errors),

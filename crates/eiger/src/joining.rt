@@ -1,22 +1,27 @@
 //! The node of one data centre.
-ghost use Rattle.std.specs.Prelude.{◌≡◌, [], IfOk};
+ghost use Rattle.std.specs.Prelude.{◌<◌, IfOk};
 ghost use Rattle.eiger.specs.Answering.{HasStopped};
 
 use crate::answering::opened;
-use crate::keeping::millis_since;
+use crate::keeping::{millis_since, tell_of};
 use crate::serving::tell_port;
 use crate::together::tell_all;
 use crate::watching::Watch;
 use command_line::Joining;
 use doors::{Doorway, Sockets};
+use durable_site::{DurableSite, Identity, Others};
 use hello::{Expected, Secret};
-use hosting::Node;
+use hosting::{Node, send_all};
+use ledger::write_head;
 use logical_time::Fault;
-use meeting::{Meeting, Own};
+use meeting::{Meeting, Other, Own};
+use messages::Topology;
 use mio::Registry;
 use program::{Buffered, Output, tell};
+use readiness::SharedPort;
 use sha2::{Digest, Sha256};
 use site::Site;
+use site_folder::{FileDisk, open_site};
 use site_port::SiteSessions;
 use sites_file::{SitesFile, read_sites};
 use std::net::SocketAddr;
@@ -52,14 +57,26 @@ fn secret_of(rt: &HostRuntime, name: &str) -> Result<Secret, Fault> {
     Secret::new(bytes_of(rt, name)?).ok_or(Fault::Script)
 }
 
-// The file of sites, and its digest.
-fn sites_of(rt: &HostRuntime, name: &str) -> Result<(SitesFile, [u8; 32]), Fault> {
-    let bytes = bytes_of(rt, name)?;
+// What a node is asked for, as its files tell.
+#[derive(Drop)]
+struct Asked {
+    sites: SitesFile,
+    // That of the file of sites.
+    digest: [u8; 32],
+    secret: Secret,
+}
+
+// The files that are named. Refused with `Script` where one isn't what it should be.
+fn asked_of(rt: &HostRuntime, joining: &Joining) -> Result<Asked, Fault> {
+    let bytes = bytes_of(rt, joining.name.as_str())?;
     let Ok(text) = str::from_utf8(bytes.as_slice()) else {
         return Err(Fault::Script);
     };
-    let sites = read_sites(rt.alloc(), text)?;
-    Ok((sites, Sha256::digest(bytes.as_slice())))
+    Ok(Asked {
+        sites: read_sites(rt.alloc(), text)?,
+        digest: Sha256::digest(bytes.as_slice()),
+        secret: secret_of(rt, joining.secret.as_str())?,
+    })
 }
 
 // The address that a text is. Refused with `Script` where it is none.
@@ -67,56 +84,42 @@ fn address_of(text: &str) -> Result<SocketAddr, Fault> {
     text.parse::<SocketAddr>().map_err(|_error| Fault::Script)
 }
 
-// What the site is to those that it meets.
-fn own(
+// The processes that were met before; of each data centre none, where no log tells of one.
+fn met_before(
     rt: &HostRuntime,
-    joining: &Joining,
     sites: &SitesFile,
-    digest: [u8; 32],
-) -> Result<Own, Fault> {
-    let mut met = Vec::new(rt.alloc());
-    for _site in &sites.sites {
-        met.push(None)?;
+    met: Vec<Option<[u8; 16]>>,
+) -> Result<Vec<Option<[u8; 16]>>, Fault> {
+    if !met.is_empty() {
+        return Ok(met);
     }
-    Ok(Own {
-        expected: Expected {
-            dc: joining.dc,
-            incarnation: incarnation(rt)?,
-            digest,
-            met,
-        },
-        secret: secret_of(rt, joining.secret.as_str())?,
-        behind: joining.behind,
-    })
+    let mut none = Vec::new(rt.alloc());
+    for _site in &sites.sites {
+        none.push(None)?;
+    }
+    Ok(none)
 }
 
-// The sockets of other sites, which aren't called yet.
-fn meeting<'a>(
-    rt: &'a HostRuntime,
-    joining: &Joining,
+// The other sites, each with how many of its parcels were taken before.
+fn others(
+    rt: &HostRuntime,
     sites: &SitesFile,
-    digest: [u8; 32],
-    peers: SocketAddr,
-    registry: Registry,
-) -> Result<Meeting<'a, HostRuntime, Watch<'a>>, Fault> {
-    let own = own(rt, joining, sites, digest)?;
+    here: u16,
+    taken: &[u64],
+) -> Result<Vec<Other>, Fault> {
     let mut others = Vec::new(rt.alloc());
     let mut dc: u16 = 0;
     for site in &sites.sites {
-        if dc != joining.dc {
-            others.push((dc, address_of(site.peers.as_str())?))?;
+        if dc != here {
+            others.push(Other {
+                dc,
+                address: address_of(site.peers.as_str())?,
+                taken: taken.get(usize::from(dc)).copied().unwrap_or(0),
+            })?;
         }
         dc = dc.saturating_add(1);
     }
-    Meeting::open(
-        rt,
-        rt.alloc(),
-        registry,
-        peers,
-        own,
-        others.as_slice(),
-        Watch::new(rt),
-    )
+    Ok(others)
 }
 
 // Exchanges words with the other sites until each was met once.
@@ -144,7 +147,7 @@ fn serve_all<T: Wait, E: Buffered>(
     rt: &HostRuntime,
     threads: &T,
     began: Option<Instant>,
-    node: &mut Node<Meeting<'_, HostRuntime, Watch<'_>>>,
+    node: &mut Node<Meeting<'_, HostRuntime, Watch<'_>>, FileDisk>,
     errors: &mut Output<E>,
 ) -> Fault {
     for _ in threads.forever() {
@@ -157,17 +160,191 @@ fn serve_all<T: Wait, E: Buffered>(
     unreachable!()
 }
 
-// The site of a data centre. Refused with `UnknownHome` where the file has no such one, and with `Memory`.
-fn site_asked(rt: &HostRuntime, sites: &SitesFile, dc: u16) -> Result<Site<Actor>, Fault>
-    ensures { IfOk result (λ s. s.story ≡ []) }
+// The process that this is, unless its log says which it was. A log is that of a store, whatever addresses its nodes have. Refused with
+// `UnknownHome` where the file has no such site.
+fn identity(rt: &HostRuntime, topology: &Topology, dc: u16) -> Result<Identity, Fault>
+    ensures { IfOk result (λ i. i.dc < topology.now.dcs) }
 {
-    if dc >= sites.topology.dcs() {
+    if dc >= topology.dcs() {
         return Err(Fault::UnknownHome);
     }
-    Site::new(rt.alloc(), &sites.topology, dc)
+    let store = write_head(rt.alloc(), 0, topology)?;
+    Ok(Identity {
+        dc,
+        incarnation: incarnation(rt)?,
+        digest: Sha256::digest(store.as_slice()),
+    })
 }
 
-// Meets the other sites, says that it listens, and serves. Gives why that ended.
+// The site of this process, which keeps no log, or that of its folder's log, with what that tells of other sites. Tells why none comes
+// back.
+fn site_asked<E: Buffered>(
+    rt: &HostRuntime,
+    joining: &Joining,
+    topology: &Topology,
+    errors: &mut Output<E>,
+) -> Result<(DurableSite<Actor, FileDisk>, Others), Fault> {
+    let identity = identity(rt, topology, joining.dc)?;
+    let Some(folder) = &joining.data else {
+        let site = Site::new(rt.alloc(), topology, identity.dc)?;
+        let others = Others {
+            heard: Vec::new(rt.alloc()),
+            met: Vec::new(rt.alloc()),
+        };
+        return Ok((DurableSite::without_log(site, identity), others));
+    };
+    match open_site(rt, topology, folder.as_str(), identity) {
+        Ok(found) => Ok(found),
+        Err(why) => {
+            tell_of(rt.alloc(), folder.as_str(), why.reason(rt.alloc()), errors);
+            Err(why.fault())
+        }
+    }
+}
+
+// What a node is made of, before it has met the others.
+struct Home<'a> {
+    door: Sockets,
+    port: SiteSessions<Actor, FileDisk>,
+    meeting: Meeting<'a, HostRuntime, Watch<'a>>,
+    // The port for clients.
+    clients: u16,
+    began: Option<Instant>,
+}
+
+// It is noted which processes were met, for good.
+fn note_met(
+    port: &mut SiteSessions<Actor, FileDisk>,
+    met: &[Option<[u8; 16]>],
+) -> Result<(), Fault> {
+    let mut dc: u16 = 0;
+    for process in met {
+        if let Some(incarnation) = process {
+            port.note_met(dc, incarnation)?;
+        }
+        dc = dc.saturating_add(1);
+    }
+    port.settle()
+}
+
+// Gives all that goes to other sites, and meets these, unless each was met before it ended. Refused as that is.
+fn settle_in<T: Wait>(rt: &HostRuntime, threads: &T, home: &mut Home<'_>) -> Result<(), Fault> {
+    send_all(&mut home.port, &mut home.meeting, u64::MAX)?;
+    if home.meeting.have_met() {
+        return Ok(());
+    }
+    meet_all(rt, threads, home.began, &mut home.door, &mut home.meeting)?;
+    note_met(&mut home.port, home.meeting.met())
+}
+
+// A node that has met the others. Refused where that is; then the site is closed.
+fn settled_in<'a, T: Wait>(
+    rt: &'a HostRuntime,
+    threads: &T,
+    mut home: Home<'a>,
+) -> Result<Node<Meeting<'a, HostRuntime, Watch<'a>>, FileDisk>, Fault> {
+    let met = settle_in(rt, threads, &mut home);
+    let Home {
+        door,
+        port,
+        meeting,
+        clients: _,
+        began: _,
+    } = home;
+    match met {
+        Ok(()) => Node::new(rt.alloc(), door, port, meeting, LONGEST),
+        Err(fault) => {
+            port.close();
+            Err(fault)
+        }
+    }
+}
+
+// What this site is to those that it meets: the process that it is, and which of theirs it met before.
+fn own(
+    rt: &HostRuntime,
+    joining: &Joining,
+    asked: Asked,
+    whose: Identity,
+    met: Vec<Option<[u8; 16]>>,
+) -> Result<Own, Fault> {
+    let Asked {
+        sites,
+        digest,
+        secret,
+    } = asked;
+    Ok(Own {
+        expected: Expected {
+            dc: whose.dc,
+            incarnation: whose.incarnation,
+            digest,
+            met: met_before(rt, &sites, met)?,
+        },
+        secret,
+        behind: joining.behind,
+    })
+}
+
+// The sockets of other sites, which aren't called yet, by the process that this is and what its log tells of them.
+fn meeting<'a>(
+    rt: &'a HostRuntime,
+    joining: &Joining,
+    asked: Asked,
+    whose: Identity,
+    told: Others,
+    registry: Registry,
+) -> Result<Meeting<'a, HostRuntime, Watch<'a>>, Fault> {
+    let Others { heard, met } = told;
+    let others = others(rt, &asked.sites, joining.dc, &heard)?;
+    let Some(here) = asked.sites.sites.get(usize::from(joining.dc)) else {
+        return Err(Fault::UnknownHome);
+    };
+    let peers = address_of(here.peers.as_str())?;
+    let own = own(rt, joining, asked, whose, met)?;
+    Meeting::open(
+        rt,
+        rt.alloc(),
+        registry,
+        peers,
+        own,
+        others.as_slice(),
+        Watch::new(rt),
+    )
+}
+
+// The site that is asked for, which comes back from its log where it keeps one, and the sockets by which it is reached.
+fn home_of<'a, E: Buffered>(
+    rt: &'a HostRuntime,
+    joining: &Joining,
+    errors: &mut Output<E>,
+) -> Result<Home<'a>, Fault> {
+    let asked = asked_of(rt, joining)?;
+    let Some(here) = asked.sites.sites.get(usize::from(joining.dc)) else {
+        return Err(Fault::UnknownHome);
+    };
+    let began = Instant::now(rt).ok();
+    let clients = address_of(here.clients.as_str())?;
+    let mut door = Sockets::open_at(rt, rt.alloc(), clients)?;
+    let registry = door.registry()?;
+    let (site, told) = site_asked(rt, joining, &asked.sites.topology, errors)?;
+    let port = SiteSessions::new(rt.alloc(), site)?;
+    let whose = port.site().identity();
+    match meeting(rt, joining, asked, whose, told, registry) {
+        Ok(meeting) => Ok(Home {
+            door,
+            port,
+            meeting,
+            clients: clients.port(),
+            began,
+        }),
+        Err(fault) => {
+            port.close();
+            Err(fault)
+        }
+    }
+}
+
+// Comes back from its log, where it keeps one, meets the others, says that it listens, and serves. Gives why that ended.
 fn serve_site<T: Wait, W: Buffered, E: Buffered>(
     rt: &HostRuntime,
     threads: &T,
@@ -175,21 +352,10 @@ fn serve_site<T: Wait, W: Buffered, E: Buffered>(
     output: &mut Output<W>,
     errors: &mut Output<E>,
 ) -> Result<Fault, Fault> {
-    let (sites, digest) = sites_of(rt, joining.name.as_str())?;
-    let Some(here) = sites.sites.get(usize::from(joining.dc)) else {
-        return Err(Fault::UnknownHome);
-    };
-    let began = Instant::now(rt).ok();
-    let (clients, peers) = (
-        address_of(here.clients.as_str())?,
-        address_of(here.peers.as_str())?,
-    );
-    let mut door = Sockets::open_at(rt, rt.alloc(), clients)?;
-    let mut meeting = meeting(rt, joining, &sites, digest, peers, door.registry()?)?;
-    meet_all(rt, threads, began, &mut door, &mut meeting)?;
-    let port = SiteSessions::new(rt.alloc(), site_asked(rt, &sites, joining.dc)?)?;
-    let mut node = Node::new(rt.alloc(), door, port, meeting, LONGEST)?;
-    let fault = match tell_port(rt.alloc(), clients.port(), output) {
+    let home = home_of(rt, joining, errors)?;
+    let (clients, began) = (home.clients, home.began);
+    let mut node = settled_in(rt, threads, home)?;
+    let fault = match tell_port(rt.alloc(), clients, output) {
         Ok(()) => serve_all(rt, threads, began, &mut node, errors),
         Err(fault) => fault,
     };
@@ -197,10 +363,12 @@ fn serve_site<T: Wait, W: Buffered, E: Buffered>(
     Ok(fault)
 }
 
-/// Serves the sessions of one data centre, once each other site was met, and exchanges writes with these, until it is stopped. Tells of
-/// each connection that ends with a fault, and of other sites. Gives the exit status, 1, after the fault that ended it was told:
-/// `Script` where the file of sites or the secret isn't one, `UnknownHome` where that has no such site, `ReadFailed` where a file can't be
-/// read, or it can't listen or wait, `WriteFailed` where it can't say that it listens, `Memory`.
+/// Serves the sessions of one data centre, once each other site was met, ever, and exchanges writes with these, until it is stopped. Where it
+/// keeps a log, it comes back from that first, and nothing leaves it before what it tells of is on the disk. Tells of each connection
+/// that ends with a fault, and of other sites. Gives the exit status, 1, after the fault that ended it was told: `Script` where the file
+/// of sites or the secret isn't one, `UnknownHome` where that has no such site, `ReadFailed` where a file can't be read, it can't listen
+/// or wait, or its log leads to no site, `WriteFailed` where it can't say that it listens, or its disk fails, `ClockSpent` where its log
+/// tells so, `StrangerEnd` where an actor sent what isn't its own, `Memory`.
 pub(crate) fn join<T: Wait, W: Buffered, E: Buffered>(
     rt: &HostRuntime,
     threads: &T,

@@ -11,8 +11,8 @@ use std::time::Instant;
 /// How many entries happen between two looks at the clock.
 const STRIDE: usize = 1024;
 
-// Tells something of a log, as far as the output takes it.
-fn tell_of<E: Buffered>(
+/// Tells something of a log, as far as the output takes it.
+pub(crate) fn tell_of<E: Buffered>(
     alloc: Global,
     folder: &str,
     what: Result<String, AllocError>,

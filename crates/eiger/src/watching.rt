@@ -46,6 +46,9 @@ impl<'a> Watch<'a> {
             News::Behind(dc, bytes) => {
                 format!(in self.rt.alloc(); "eiger: {bytes} bytes wait for site {dc}\n")
             }
+            News::Refused(dc) => format!(in self.rt.alloc();
+                "eiger: site {dc} sent what isn't its own, and nothing more is taken from it\n"
+            ),
             News::Trouble(trouble) => {
                 let reason = reason(trouble);
                 format!(in self.rt.alloc(); "eiger: a site was refused: {reason}\n")
