@@ -5,3 +5,4 @@ pub mod Stories
 pub mod Meant
 pub mod Same
 pub mod Again
+pub mod Idle

@@ -32,7 +32,7 @@ same_op (Submit o) = refl
 same_op (Handle e) = refl
 same_op (Collect time) = refl
 
-numbered_at : (s : Story) (node number : ℕ) → op_numbered (journal s node) number ≡ op_at s node number
+pub numbered_at : (s : Story) (node number : ℕ) → op_numbered (journal s node) number ≡ op_at s node number
 numbered_at s node zero = refl
 numbered_at s node (suc n) = ap (λ l. slice_get l n) (same_told op_in own.op_in (journal s node) (λ x has. same_op x))
 

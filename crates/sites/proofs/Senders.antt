@@ -39,7 +39,7 @@ pub record HasMachine (top : TopologyValue) (s : Story) (node : ℕ) : Type 0 wh
   pub recorded : IsPast CameFrom untaken_of top node machine (journal s node) (outcomes s node) (sent s node) count clock true
 
 module _ (top : TopologyValue) (dc : ℕ) (s : Story) (is : IsSiteStory top dc s) where
-  now : IsMoment CameFrom untaken_of top dc s
+  pub now : IsMoment CameFrom untaken_of top dc s
   now = is.0.moments s ([], sym (append_nil s))
     where
       append_nil : {X : Type 0} (xs : List X) → xs ++ [] ≡ xs

@@ -4,7 +4,9 @@ ghost use Rattle.column_family.specs.History.{History};
 ghost use Rattle.slice.specs.declared.read.Read.{Read};
 ghost use Rattle.slice.specs.declared.read.AnsweredRow.{AnsweredRow};
 ghost use Rattle.table.specs.Meaning.{meaning};
+ghost use Rattle.messages.specs.declared.op.Op.{Op};
 ghost use Rattle.messages.specs.declared.op.Op.TheVariants as op;
+ghost use Rattle.messages.specs.declared.outcome.Outcome.{Outcome};
 ghost use Rattle.messages.specs.declared.outcome.Outcome.TheVariants as outcome;
 ghost use Rattle.messages.specs.Topology.{TopologyValue, is_topology, is_session, node_count};
 ghost use Rattle.messages.specs.Actors.{outcomes_by};
@@ -15,8 +17,11 @@ ghost use Rattle.messages.specs.declared.event.ActorEvent.{ActorEvent};
 ghost use Rattle.world.specs.declared.run_event.RunEvent.{RunEvent};
 ghost use Rattle.world.specs.Run.{run};
 ghost use Rattle.world.specs.Journals.{IsRunOf, ended_at};
+ghost use Rattle.world.specs.Local.{IsLocal, AnswersLocally};
 ghost use Rattle.site.specs.Story.{Story, is_here, journal, outcomes};
+ghost use Rattle.site.specs.Ends.{op_at, HasEnded};
 ghost use Rattle.sites.specs.Answers.{AnswersAreMeant};
+ghost use Rattle.sites.specs.Idle.{IsIdle};
 ghost use Rattle.sites.specs.Again.{HasComeBack, StayApart, GoesOnFrom, HaveComeBack, DoMeetSince};
 ghost use Rattle.sites.specs.Sites.{IsSiteStory, HasStory, DoLive, DoMeet, journals_of, outcomes_of};
 
@@ -93,4 +98,19 @@ pub fn sites_come_back()
         → DoLive top after → HaveComeBack top before after → (dc : ℕ) → dc < top.dcs → GoesOnFrom top dc (before dc) (after dc) }
     ensures meet { (top : TopologyValue) (before after : ℕ → Story) → is_topology top.dcs top.shards top.homes ≡ true → DoLive top before → DoMeet top before
         → DoLive top after → HaveComeBack top before after → DoMeetSince top before after → DoMeet top after }
+{}
+
+/// A site at which nothing waits has answered all that it can answer by itself, whoever can be reached: where all that came for its actors
+/// was handled, in each run whose journals have those of the site no read waits on its shards, and no session of it that is at home has
+/// a batch or a read open (`runs`). So each batch and each read that such a session submitted has ended there (`ended`). Does nothing; its
+/// contract is the law.
+pub fn idle_sites_have_answered()
+    ensures runs { (top : TopologyValue) (dc : ℕ) (s : Story) (journals : ℕ → List ActorEvent) (events : List RunEvent)
+        → IsSiteStory top dc s → IsIdle top dc s → HasStory top dc s journals → IsRunOf top journals events
+        → AnswersLocally top (run top events) dc }
+    ensures ended { (top : TopologyValue) (dc : ℕ) (s : Story) (journals : ℕ → List ActorEvent) (events : List RunEvent)
+        (node number : ℕ) (o : Op)
+        → IsSiteStory top dc s → IsIdle top dc s → HasStory top dc s journals → IsRunOf top journals events
+        → is_session top node ≡ true → is_here top dc node ≡ true → ((run top events).sessions node).home ≡ dc
+        → op_at s node number ≡ Some o → IsLocal o → (r : Outcome) × HasEnded s node number o r }
 {}

@@ -8,6 +8,6 @@
 mod law;
 
 pub use law::{
-    answers_are_meant, answers_of_sites, one_site_comes_back, one_site_is_right, outcomes_are_told,
-    same_steps_same_story, sites_are_a_run, sites_come_back,
+    answers_are_meant, answers_of_sites, idle_sites_have_answered, one_site_comes_back,
+    one_site_is_right, outcomes_are_told, same_steps_same_story, sites_are_a_run, sites_come_back,
 };

@@ -9,3 +9,4 @@ pub mod Journaled
 pub mod Links
 pub mod Merged
 pub mod Happenings
+pub mod HandledHere

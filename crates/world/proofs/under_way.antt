@@ -18,3 +18,5 @@ pub mod LiveHeard
 pub mod SteppedLive
 pub mod SubmittedLive
 pub mod LiveEvents
+pub mod OwedSteps
+pub mod Owed

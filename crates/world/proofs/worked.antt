@@ -11,3 +11,4 @@ pub mod RefutedHistories
 pub mod RefutedOutcomes
 pub mod RefutedShards
 pub mod RefutedDrains
+pub mod RefutedLocal

@@ -8,6 +8,7 @@ pub mod Worked
 pub mod WorkedTimes
 pub mod WorkedMoves
 pub mod WorkedDrains
+pub mod WorkedLocal
 pub mod Committed
 pub mod Events
 pub mod Entries
@@ -15,6 +16,7 @@ pub mod Refusals
 pub mod Journals
 pub mod Promises
 pub mod Settled
+pub mod Local
 pub mod Each
 pub mod Lookalikes
 pub mod Collected

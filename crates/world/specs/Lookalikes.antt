@@ -1,6 +1,6 @@
 -- Forms that resemble the promises and are false. Each is a promise with one bound, one premise or one data centre changed,
 -- and worked runs refute it.
-use Rattle.std.specs.Prelude.{◌≡◌, ◌≢◌, ℕ, ◌+◌, ◌-◌, ◌<◌, ◌≤◌, true, List, ◌++◌, length, map, slice_get, Some, None, Contains, AllPairs}
+use Rattle.std.specs.Prelude.{◌≡◌, ◌≢◌, ℕ, ◌+◌, ◌-◌, ◌<◌, ◌≤◌, true, List, ◌++◌, length, map, slice_get, Some, None, ◌⊎◌, Contains, AllPairs}
 use Rattle.std.specs.List.{list_any}
 use Rattle.logical_time.specs.Stamps.{StampValue, TxnValue, is_older}
 use Rattle.column_family.specs.declared.batch.Change.{Change}
@@ -20,17 +20,17 @@ use Rattle.messages.specs.declared.op.Op.TheVariants as op
 use Rattle.messages.specs.declared.outcome.Outcome.TheVariants as outcome
 use Rattle.messages.specs.declared.body.Body.{Body}
 use Rattle.messages.specs.declared.body.Body.TheVariants as body
-use Rattle.messages.specs.Topology.{TopologyValue, is_shard, shard_count, shard_node}
+use Rattle.messages.specs.Topology.{TopologyValue, is_shard, shard_count, shard_node, home_of}
 use Rattle.messages.specs.declared.event.ActorEvent.TheVariants.{Handle}
 use Rattle.messages.specs.Actors.{outcomes_by}
 use Rattle.messages.specs.Honest.{IsHonest}
 use Rattle.messages.specs.Shard.{Decision}
-use Rattle.messages.specs.Session.{Finished}
+use Rattle.messages.specs.Session.{Finished, Idle}
 use Rattle.shard.specs.Events.{shard_run}
 use Rattle.world.specs.Run.{Run, RunEvent, Deliver, Submission, Completed, step, run}
 use Rattle.world.specs.Journals.{journal_in}
 use Rattle.world.specs.Histories.{batch_submitted, decisions_in, history_of, IsHistory}
-use Rattle.world.specs.Quiet.{handled, IsQuiet}
+use Rattle.world.specs.Quiet.{handled, IsQuiet, WasHandled}
 use Rattle.world.specs.Before.{completes, IsSubmitted, Past}
 use Rattle.world.specs.Met.{envelopes_to}
 use Rattle.world.specs.Fresh.{IsKept, WasApplied, IsNoOlder}
@@ -38,6 +38,7 @@ use Rattle.world.specs.Committed.{IsCommittedBy, time_of, IsNotBelow}
 use Rattle.world.specs.Entries.{named_by, IsOf, IsKeptIn}
 use Rattle.world.specs.Promises.{number_of, IsAnswered, TouchesAsked}
 use Rattle.world.specs.Settled.{IsCommittedIn, Settled}
+use Rattle.world.specs.Local.{IsLocallyQuiet, AllAnswered}
 use Rattle.world.specs.Each.{IsRightInRun}
 use Rattle.world.specs.Refusals.{refusal_of}
 use Rattle.world.specs.Drains.{rank, total, HasSame, deliveries_left, drained}
@@ -334,6 +335,22 @@ TablesAreEqualOneBefore top w =
 -- each operation is completed, so no read is given up
 abbrev pub QuietMeansCompleted : Run → Type 0
 QuietMeansCompleted w = IsQuiet w → (c : Completed) → Contains w.transcript c → completes c.outcome ≡ true
+
+-- ## Local answers
+
+-- where a data centre is quiet, no session that is at home there has anything open, not even a move
+abbrev pub LocallyQuietMeansIdle : TopologyValue → Run → ℕ → ℕ → Type 0
+LocallyQuietMeansIdle top w dc session =
+    IsLocallyQuiet top dc w → home_of top session ≡ Some dc → (w.sessions session).home ≡ dc → (w.sessions session).current ≡ Idle
+
+-- each session that was opened there is answered, wherever it is at home now
+abbrev pub LocallyQuietAnswersAway : TopologyValue → Run → ℕ → ℕ → Type 0
+LocallyQuietAnswersAway top w dc session = IsLocallyQuiet top dc w → home_of top session ≡ Some dc → AllAnswered w session
+
+-- it is enough that what a session sent, and what was sent to it, was handled
+abbrev pub OwnMessagesAreEnough : Run → ℕ → Type 0
+OwnMessagesAreEnough w session =
+    ((e : Envelope) → Contains w.sent e → (e.from ≡ session) ⊎ (e.to ≡ session) → WasHandled w e) → AllAnswered w session
 
 -- ## Drains
 

@@ -4,12 +4,13 @@ ghost use Rattle.world.specs.Run.{run};
 ghost use Rattle.world.specs.Worked.{one_shard, home_is_nowhere, two_shards, three_sessions, two_centres, two_by_two, three_at_home, insert_then_read, submitted_twice, told_before_the_cohort, cohort_is_read, b_is_read, a_is_written, both_are_read, a_is_written_next};
 ghost use Rattle.world.specs.Worked.{insert_and_read_back, only_submitted, sent_to_itself, two_shard_write, second_round_collected, read_beside_a_write, write_after_the_answer, concurrent_inserts_meet, older_stamp_arrives_late, dependency_holds_back, deletion_is_read, write_is_replicated, collected_and_quiet};
 ghost use Rattle.world.specs.WorkedTimes.{two_shards_of_three};
-ghost use Rattle.world.specs.WorkedMoves.{session_moves, reads_at_earlier_times};
+ghost use Rattle.world.specs.WorkedMoves.{one_mover, session_moves, reads_at_earlier_times};
+ghost use Rattle.world.specs.WorkedLocal.{moves_on, reads_away, asks_about};
 ghost use Rattle.world.specs.WorkedDrains.{one_is_answered, batch_for_two, batch_is_prepared};
 ghost use Rattle.world.specs.Lookalikes.{LowerWithYesAbove, SendsAreLower, FewerWithoutWaiting, UnhandledAreEnough, ClocksAreBelowEvents};
 ghost use Rattle.world.specs.Lookalikes.{ReadsShowEarlierTable, ReadsShowLaterTable, ReadsShowFirstCentre, PastIsBelow, PastIsInFirstCentre, PastIsShown, CommitsAreAbove, LaterCommitsOfAnyRowAreAbove, LaterCommitsAreFarAbove, ReadsAreAboveTheirHome, CompletedWritesAreShown};
 ghost use Rattle.world.specs.Lookalikes.{ReadsAreNewer, OtherRowsAreFresh, OtherColumnsAreFresh, ReadsAreFreshAtDelivery, HistoriesNeverGrow, SubmittedBatchesHaveEntries, EntriesHaveOwnTimes, FirstCentreDecides, CommitTimesAgree, StampsAreCommitTimes, StampsAreBelowCommitTimes, CommitTimesFollowCauses, StampsTellCauses};
-ghost use Rattle.world.specs.Lookalikes.{WritesAreToldInFirstCentre, CompletedWritesAreEverywhere, TimesRise, TimesNeverFallAnywhere, SessionsStayAtHome, TimesOfACentreNeverFall, SessionsEndOnce, SessionsSubmitOnce, NothingIsGivenUp, AllEndAsWrites, SubmissionsEnd, OutcomesAreListedNext, RunsKeepAllEvents, SentIsHonest, EnvelopesMakeShards, EachNodeIsRight, NearlyQuietMeansDone, QuietMeansDoneAnywhere, TablesAreEqualOnceOneIsDone, TablesAreEqualOneBefore, QuietMeansCompleted};
+ghost use Rattle.world.specs.Lookalikes.{WritesAreToldInFirstCentre, CompletedWritesAreEverywhere, TimesRise, TimesNeverFallAnywhere, SessionsStayAtHome, TimesOfACentreNeverFall, SessionsEndOnce, SessionsSubmitOnce, NothingIsGivenUp, AllEndAsWrites, SubmissionsEnd, OutcomesAreListedNext, RunsKeepAllEvents, SentIsHonest, EnvelopesMakeShards, EachNodeIsRight, LocallyQuietMeansIdle, LocallyQuietAnswersAway, OwnMessagesAreEnough, NearlyQuietMeansDone, QuietMeansDoneAnywhere, TablesAreEqualOnceOneIsDone, TablesAreEqualOneBefore, QuietMeansCompleted};
 
 /// A read shows the table of no other time and of no other data centre; its past is committed by its effective time, not
 /// below it, and at home, and what is newer can hide it. Does nothing; its contract is the law.
@@ -101,6 +102,15 @@ pub fn lookalikes_of_quiet_runs_are_false()
     ensures one_is_done { ¬ (TablesAreEqualOnceOneIsDone two_by_two write_is_replicated) }
     ensures one_before { ¬ (TablesAreEqualOneBefore two_by_two write_is_replicated) }
     ensures completed { ¬ (QuietMeansCompleted collected_and_quiet) }
+{}
+
+/// Where one data centre has handled what its own actors sent each other, a move can still be open, and so can a read of a session that
+/// has moved away; and it isn't enough that a session's own messages were handled, without those between shards. Does nothing; its
+/// contract is the law.
+pub fn lookalikes_of_local_answers_are_false()
+    ensures moves_stay { ¬ (LocallyQuietMeansIdle one_mover moves_on 0 2) }
+    ensures away { ¬ (LocallyQuietAnswersAway one_mover reads_away 0 2) }
+    ensures own_messages { ¬ (OwnMessagesAreEnough asks_about 3) }
 {}
 
 /// Where Yes stood above ReplBegin in rank, Prepare would send what is above it; a decision does send what is above its

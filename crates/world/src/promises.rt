@@ -2,12 +2,15 @@
 //! shards and sessions, with messages repeated, reordered and lost, and with collections.
 ghost use Rattle.std.specs.Prelude.{◌≡◌, ◌<◌, ℕ, true, List};
 ghost use Rattle.column_family.specs.History.{History};
+ghost use Rattle.messages.specs.declared.event.ActorEvent.{ActorEvent};
 ghost use Rattle.messages.specs.Topology.{TopologyValue, is_topology};
 ghost use Rattle.world.specs.Run.{Run, RunEvent, run};
 ghost use Rattle.world.specs.Histories.{IsHistory};
 ghost use Rattle.world.specs.Fresh.{FirstRoundsAreWhole};
 ghost use Rattle.world.specs.Quiet.{IsQuiet};
 ghost use Rattle.world.specs.Settled.{Settled};
+ghost use Rattle.world.specs.Journals.{IsRunOf};
+ghost use Rattle.world.specs.Local.{IsLocallyQuiet, AreHandledHere, IsServed, AllAnswered, AnswersLocally};
 ghost use Rattle.world.specs.Drains.{ClocksCountEvents, DeliveriesComeNearer, DecisionsAreCapped, DeliveriesAreAllowed, DeliveriesLeaveFewer, DrainsEnd};
 ghost use Rattle.world.specs.Lookups.{FindsUnhandled, HistoriesAreAsked, MessagesAreForActors, ShardsTellUnfinished};
 ghost use Rattle.world.specs.Named.{StampsAreNamed};
@@ -153,6 +156,17 @@ pub fn runs_can_be_looked_up()
 /// is the law.
 pub fn quiet_means_done()
     ensures { (top : TopologyValue) (events : List RunEvent) → is_topology top.dcs top.shards top.homes ≡ true → IsQuiet (run top events) → Settled top (run top events) }
+{}
+
+/// Answers are local: in every run in which all messages between the actors of one data centre were handled, whatever became of those
+/// between data centres, no read waits on its shards, and no session that was opened there and is at home there has a batch or a read
+/// open: each that it submitted has its outcome (`local`). So it is of a session by itself, wherever it was opened, where all messages
+/// between it and the shards of its present home, and between these, were handled (`served`). And journals that handled all that the
+/// actors of the data centre sent each other are of runs in which it was handled (`journals`). Does nothing; its contract is the law.
+pub fn answers_are_local()
+    ensures local { (top : TopologyValue) (events : List RunEvent) (dc : ℕ) → is_topology top.dcs top.shards top.homes ≡ true → dc < top.dcs → IsLocallyQuiet top dc (run top events) → AnswersLocally top (run top events) dc }
+    ensures served { (top : TopologyValue) (events : List RunEvent) (session : ℕ) → is_topology top.dcs top.shards top.homes ≡ true → IsServed top (run top events) session → AllAnswered (run top events) session }
+    ensures journals { (top : TopologyValue) (journals : ℕ → List ActorEvent) (events : List RunEvent) (dc : ℕ) → is_topology top.dcs top.shards top.homes ≡ true → IsRunOf top journals events → AreHandledHere top dc journals → IsLocallyQuiet top dc (run top events) }
 {}
 
 /// In every run no clock and no time of a message is above the number of events. So no clock is spent before there were 2^48

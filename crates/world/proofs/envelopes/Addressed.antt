@@ -1,7 +1,6 @@
 -- Each message of a run is for an actor that there is.
-use Rattle.std.proofs.Common.{◌≡◌, ℕ, ◌*◌, ◌<◌, true, ◌⊎◌, inl, inr, List, [], ◌∷◌, ◌++◌, refl, ap, ◌∙◌, subst, append-nil, ltb-true}
+use Rattle.std.proofs.Common.{◌≡◌, ℕ, ◌<◌, true, ◌⊎◌, inl, inr, List, [], ◌∷◌, ◌++◌, refl, ap, ◌∙◌, subst, append-nil}
 use Rattle.std.specs.Prelude.{Contains}
-use Rattle.std.proofs.lemmas.Nat.{div_below}
 use Rattle.messages.specs.declared.body.Body.{Body}
 use Rattle.messages.specs.declared.body.Body.TheVariants.{Begin, Prepare, Yes, Commit, At, NotBy, Check, Read as ReadNow, ReadAt, ReplBegin, ReplPart, Notify, PrepareRemote, DepCheck, DepOk, Done, PartNow, PartAt}
 use Rattle.messages.specs.declared.envelope.Envelope.{Envelope}
@@ -21,7 +20,7 @@ use Rattle.world.proofs.steps.SessionSends.{IsOfSession, AreOfSession, heard_sen
 use Rattle.world.proofs.envelopes.About.{kind_of}
 use Rattle.world.proofs.under_way.Underway.{SaysLive, Live}
 use Rattle.world.proofs.envelopes.Stations.{Stations, opening_stations, step_stations}
-use Rattle.world.proofs.envelopes.Addresses.{dc_shard, known_shard, to_shard, who_waits, done_session, stands}
+use Rattle.world.proofs.envelopes.Addresses.{dc_shard, shard_dc, known_shard, to_shard, who_waits, done_session, stands}
 use Rattle.world.proofs.safety.Runs.{every_run}
 use Rattle.world.proofs.under_way.LiveEvents.{run_live}
 
@@ -141,7 +140,7 @@ module _ (top : TopologyValue) (w : Run) (some : 0 < top.shards) (inv : Inv top 
   -- a shard of the same data centre as a shard
   beside : (from to : ℕ) → is_shard top from ≡ true → dc_of top from ≡ dc_of top to → is_shard top to ≡ true
   beside from to is same =
-      dc_shard top to some (subst (λ d. d < top.dcs) same (div_below from top.shards top.dcs some (ltb-true from (top.dcs * top.shards) is)))
+      dc_shard top to some (subst (λ d. d < top.dcs) same (shard_dc top from some is))
 
   for_actor : (from to time : ℕ) (b : Body) → Says top w from to time b → SaysLive top w from to (kind_of b) → Fits top from to b
       → (is_shard top to ≡ true) ⊎ (is_session top to ≡ true)

@@ -1,10 +1,11 @@
 -- Where messages go: what is for a shard goes to one, Done goes to a session, and DepOk to either.
-use Rattle.std.proofs.Common.{◌≡◌, ℕ, ◌<◌, Bool, true, false, ◌&&◌, length, slice_get, Option, Some, None, ◌⊎◌, inl, inr, refl, sym, ap, ◌∙◌, subst, arith, leb-true, ltb-true}
+use Rattle.std.proofs.Common.{◌≡◌, ℕ, ◌*◌, ◌<◌, Bool, true, false, ◌&&◌, length, slice_get, Option, Some, None, ◌⊎◌, inl, inr, refl, sym, ap, ◌∙◌, subst, arith, leb-true, ltb-true}
 use Rattle.std.specs.Prelude.{nat_le, nat_lt, option_and_then, Contains}
 use Rattle.std.specs.List.{list_all}
 use Rattle.std.specs.Option.{unwrap_or}
 use Rattle.std.proofs.lemmas.Bool.{false≢true, and_parts}
 use Rattle.std.proofs.lemmas.Bool.Decides.{nat_tests}
+use Rattle.std.proofs.lemmas.Nat.{div_below}
 use Rattle.logical_time.specs.Stamps.{TxnValue}
 use Rattle.messages.specs.declared.body.Body.{Body}
 use Rattle.messages.specs.declared.body.Body.TheVariants.{Begin, Prepare, Yes, Commit, Read as ReadNow, ReadAt, ReplBegin, ReplPart, Notify, PrepareRemote, DepCheck, Done}
@@ -25,6 +26,10 @@ use Rattle.world.proofs.envelopes.Stations.{Stations}
 pub dc_shard : (top : TopologyValue) (node : ℕ) → 0 < top.shards → dc_of top node < top.dcs → is_shard top node ≡ true
 dc_shard top node some lt =
     subst (λ m. is_shard top m ≡ true) (shard_again top node) (shard_is_shard top (dc_of top node) (shard_of top node) lt (shard_below top node some))
+
+-- a shard is of a data centre that there is
+pub shard_dc : (top : TopologyValue) (node : ℕ) → 0 < top.shards → is_shard top node ≡ true → dc_of top node < top.dcs
+shard_dc top node some is = div_below node top.shards top.dcs some (ltb-true node (top.dcs * top.shards) is)
 
 no_session : (top : TopologyValue) (node : ℕ) → is_shard top node ≡ true → is_session top node ≡ false
 no_session top node e = grind (arith, nat_tests)

@@ -21,7 +21,8 @@ use Rattle.world.proofs.safety.OneBatch.{written_at, submitted_one, batch_one}
 use Rattle.world.proofs.envelopes.Near.{coordinator_below, cohort_below, cohort_other, lead_dc, lead_number}
 use Rattle.world.proofs.envelopes.About.{OfReplBegin, OfReplPart, OfNotify, OfDepCheck, OfDepOk, Sent}
 use Rattle.world.proofs.under_way.Underway.{HasDecision, HasKeptPart, HasKeptBallot, Knows, vote_of, met_of, RoleLive, WasCounted, by_ballot, by_move, Live}
-use Rattle.world.proofs.quiet.Settling.{each_or, act, cohort_undecided, known_decided, lead_leads, home_decided, cohort_applied}
+use Rattle.world.proofs.quiet.Among.{each_or, cohort_undecided, lead_leads}
+use Rattle.world.proofs.quiet.Settling.{act, known_decided, home_decided, cohort_applied}
 
 module _ (top : TopologyValue) (w : Run) (some : 0 < top.shards) (inv : Inv top w) (live : Live top w) (quiet : IsQuiet w)
     (b : Submission) (batch : List Change) (k : IsWritten w (txn_of b) b batch) (dc : ℕ) (lt : dc < top.dcs) (ne : dc ≡ b.home → ⊥)
@@ -120,7 +121,7 @@ module _ (top : TopologyValue) (w : Run) (some : 0 < top.shards) (inv : Inv top 
         let same = batch_one inv.submitted (written_at e rs.written) k in
         absurd (cohort_other top.shards batch (shard_of top c1) cohort_here (lead_number top c1 (dc_of top c1) rs.batch some rs.here ∙ ap
         (coordinator_of top.shards) same))
-    part_notice (inr (inr (inr d))) = absurd (cohort_undecided top w some inv live quiet c1 t b batch k cohort_here d)
+    part_notice (inr (inr (inr d))) = absurd (cohort_undecided top w some inv c1 t b batch k cohort_here d)
     part_notice (inr (inr (inl (p, i, e)))) =
         let ps = (inv.shards c1).prepared p i in
         let k' = written_at e ps.written in
@@ -189,4 +190,4 @@ module _ (top : TopologyValue) (w : Run) (some : 0 < top.shards) (inv : Inv top 
       ]
 
   pub decided_here : HasDecision (w.shards s) t
-  decided_here = known_decided top w some inv live quiet s t (lead_leads top w some inv live quiet dc t b batch k) (come ballot_came)
+  decided_here = known_decided top w some inv live quiet s t (lead_leads top w some inv dc t b batch k) (come ballot_came)

@@ -47,7 +47,7 @@ dep_ok_is (DepOk t u commit) dependency waiter e = let a : t ≡ dependency = cc
 )
 dep_ok_is _ dependency waiter e = absurd (cc)
 
-nothing : {X : Type 0} (xs : List X) → ((x : X) → Contains xs x → ⊥) → xs ≡ []
+pub nothing : {X : Type 0} (xs : List X) → ((x : X) → Contains xs x → ⊥) → xs ≡ []
 nothing [] f = refl
 nothing (x ∷ xs) f = absurd (f x (contains_first x xs))
 

@@ -1,5 +1,5 @@
 -- A quiet run is settled.
-use Rattle.std.proofs.Common.{◌≡◌, ℕ, ◌<◌, List, Some, ◌⊎◌, inl, inr, refl, sym, ap, ◌∙◌, subst, subst₂, arith}
+use Rattle.std.proofs.Common.{◌≡◌, ℕ, ◌<◌, List, Some, inl, inr, refl, sym, ap, ◌∙◌, subst, subst₂}
 use Rattle.std.specs.Prelude.{false, Contains}
 use Rattle.std.proofs.lemmas.Bool.{false≢true}
 use Rattle.logical_time.specs.Stamps.{TxnValue, WriterValue}
@@ -14,20 +14,22 @@ use Rattle.messages.specs.Session.{Open, Idle, Writing, FirstRound, SecondRound,
 use Rattle.world.specs.Run.{Run, Submission, Completed}
 use Rattle.world.specs.Histories.{history_of, IsHistory}
 use Rattle.world.specs.Quiet.{IsQuiet}
+use Rattle.world.specs.Local.{MovesAtMost}
 use Rattle.world.specs.Settled.{IsOutcomeOf, IsCommittedIn, HasEntry, Settled}
-use Rattle.world.proofs.safety.Facts.{txn_of, IsWritten, lead}
+use Rattle.world.proofs.safety.Facts.{txn_of, IsWritten}
 use Rattle.world.proofs.safety.Invariant.{MovingSound, OpenSound, Inv}
-use Rattle.world.proofs.causal.Causal.{txn_ended, Causal}
+use Rattle.world.proofs.causal.Causal.{Causal}
 use Rattle.world.proofs.histories.DecidedIn.{decided_in, in_decisions}
 use Rattle.world.proofs.histories.Entries.{batch_found}
 use Rattle.world.proofs.histories.Histories.{entry_there}
-use Rattle.world.proofs.safety.OneBatch.{written_at, submitted_one, batch_one}
-use Rattle.world.proofs.envelopes.Near.{coordinator_below, lead_dc}
-use Rattle.world.proofs.envelopes.About.{OfRead, OfReadAt, OfDepCheck, OfDepOk, OfPartNow, OfPartAt, OfDone, Sent}
-use Rattle.world.proofs.under_way.Underway.{FirstHas, SecondHas, SecondIs, IsNotLeft, WasCounted, by_ballot, by_move, MovingLive, OpenLive, HasEnded, StillOpen, Live}
+use Rattle.world.proofs.safety.OneBatch.{written_at, batch_one}
+use Rattle.world.proofs.envelopes.Near.{coordinator_below}
+use Rattle.world.proofs.envelopes.About.{OfDepCheck, OfDepOk, Sent}
+use Rattle.world.proofs.under_way.Underway.{IsNotLeft, WasCounted, by_ballot, by_move, MovingLive, OpenLive, Live}
 use Rattle.world.proofs.under_way.OpenReads.{still_left}
 use Rattle.world.proofs.keeping.SessionEnds.{open_txn}
-use Rattle.world.proofs.quiet.Settling.{act, home_decided}
+use Rattle.world.proofs.quiet.Settling.{Everyone, quiet_among_all, act}
+use Rattle.world.proofs.quiet.Answered.{answered, outcome_of}
 use Rattle.world.proofs.quiet.SettledShards.{each_decided, no_wait, asked_decided, shard_clear}
 use Rattle.world.proofs.quiet.SettledTables.{equal_tables}
 
@@ -62,24 +64,7 @@ module _ (top : TopologyValue) (w : Run) (some : 0 < top.shards) (inv : Inv top 
         submitted = sym same ∙ batch_one inv.submitted (written_at d.2 s.written) k;
       }
 
-  -- the session was told
-  write_ended : (t : TxnValue) (b : Submission) (batch : List Change) → IsWritten w t b batch → HasEnded w t
-  write_ended t b batch k =
-      let s = lead top b.home batch in
-      let d = home_decided top w some inv live quiet t b batch k in
-      let l = (live.shards s).entries.decided d.0 d.1 in
-      let one = submitted_one inv.submitted (written_at d.2 l.written) k in
-      let r = act top w some inv live quiet s d.0.txn.session (OfDone d.0.txn) (l.done (lead_dc top b.home batch some ∙ ap (λ z. z.home) (sym one))) in
-      subst (λ u. HasEnded w u) d.2 r
-
   -- ## Sessions
-
-  not_idle : (node : ℕ) (o : Open) → (w.sessions node).current ≡ o → is_idle o ≡ false → (c : Completed) → Contains w.transcript c → c.node ≡ node
-      → c.number ≡ (w.sessions node).count → ⊥
-  not_idle node o e busy c m at is =
-      let lt = causal.closed c m (ap (λ i. is_idle (w.sessions i).current) at ∙ ap is_idle e ∙ busy) in
-      let same : (w.sessions c.node).count ≡ (w.sessions node).count = ap (λ i. (w.sessions i).count) at in
-      omega arith
 
   -- an open move would miss an answer that it was given
   module _ (node dc : ℕ) (left : List WriterValue) (floor : ℕ) (e : (w.sessions node).current ≡ Moving dc left floor)
@@ -117,53 +102,21 @@ module _ (top : TopologyValue) (w : Run) (some : 0 < top.shards) (inv : Inv top 
         ]
 
   idle : (node : ℕ) → (w.sessions node).current ≡ Idle
-  idle node = go (w.sessions node).current refl (inv.sessions node).current (live.current node)
+  idle node =
+      go (w.sessions node).current refl (inv.sessions node).current (live.current node)
+      (answered top w some inv live causal Everyone (quiet_among_all w quiet) node tt (λ c lt. tt) (λ shard y here. no_wait top w some inv live quiet shard y)
+      (w.sessions node).current refl (inv.sessions node).current (live.current node))
     where
-      go : (o : Open) → (w.sessions node).current ≡ o → OpenSound top w node (w.sessions node) o → OpenLive top w node (w.sessions node) o → o ≡ Idle
-      go Idle e s k = refl
-      go (Writing coordinator) e s k =
-          let t = open_txn s.opened in
-          let c = write_ended (txn_of s.opened.submission) s.opened.submission s.batch (record { among = s.opened.among; txn = refl; op = s.opened.op }) in
-          let u : txn_ended c.0 ≡ record { session = node; number = (w.sessions node).count } = c.2 ∙ t in
-          absurd (not_idle node (Writing coordinator) e refl c.0 c.1 (ap (λ z. z.session) u) (ap (λ z. z.number) u))
-      go (FirstRound read heard) e s k =
-          let shard = k.some.0 in
-          let sent = act top w some inv live quiet node shard (OfRead (w.sessions node).count) (k.asked shard k.some.1) in
-          let heard_it = (act top w some inv live quiet shard node (OfPartNow (w.sessions node).count) sent).round refl in
-          let has : FirstHas top (w.sessions node) (FirstRound read heard) shard = subst (λ z. FirstHas top (w.sessions node) z shard) e heard_it in
-          absurd (false≢true (sym has ∙ k.some.1))
-      go (SecondRound read time first heard) e s k =
-          let shard = k.some.0 in
-          elim (act top w some inv live quiet node shard (OfReadAt (w.sessions node).count time) (k.asked shard k.some.1)) [
-            | inl sent ↦
-                let heard_it = (act top w some inv live quiet shard node (OfPartAt (w.sessions node).count time) sent).round refl in
-                let has : SecondHas top (w.sessions node) (SecondRound read time first heard) shard = subst
-                (λ z. SecondHas top (w.sessions node) z shard) e heard_it in
-                absurd (false≢true (sym has ∙ k.some.1))
-            | inr (inl y) ↦ absurd (no_wait top w some inv live quiet shard y.0 y.1)
-            | inr (inr y) ↦
-                let is : SecondIs (SecondRound read time first heard) y.0 = subst (λ z. SecondIs z y.0) e (y.2.round refl) in
-                absurd (y.1 (sym is))
-          ]
-      go (Moving dc left floor) e s k = absurd (not_moving node dc left floor e s k)
+      go : (o : Open) → (w.sessions node).current ≡ o → OpenSound top w node (w.sessions node) o → OpenLive top w node (w.sessions node) o → MovesAtMost o
+          → o ≡ Idle
+      go Idle e s k m = refl
+      go (Writing coordinator) e s k m = absurd m
+      go (FirstRound read heard) e s k m = absurd m
+      go (SecondRound read time first heard) e s k m = absurd m
+      go (Moving dc left floor) e s k m = absurd (not_moving node dc left floor e s k)
 
   outcome : (b : Submission) → Contains w.submitted b → (c : Completed) × IsOutcomeOf w b c
-  outcome b m = go (live.ends b m)
-    where
-      go : StillOpen w b ⊎ HasEnded w (txn_of b) → (c : Completed) × IsOutcomeOf w b c
-      go (inl o) = absurd (false≢true (sym o.current ∙ ap is_idle (idle b.session)))
-      go (inr (c, i, e)) =
-          let k = (inv.transcript c i).opened in
-          let same = inv.submitted.one k.submission b k.among m (open_txn k ∙ e) in (
-            c,
-            record {
-              ended = i;
-              node = ap (λ z. z.session) e;
-              number = ap (λ z. z.number) e;
-              home = sym k.home ∙ ap (λ z. z.home) same;
-              op = sym k.op ∙ ap (λ z. z.op) same;
-            },
-          )
+  outcome b m = outcome_of top w inv live b m (λ o. false≢true (sym o.current ∙ ap is_idle (idle b.session)))
 
   -- ## All
 

@@ -1,152 +1,46 @@
--- In a quiet run each coordinator that knows a transaction has decided it, and its cohorts have applied it.
-use Rattle.std.proofs.Common.{◌≡◌, ℕ, ◌<◌, List, [], ◌∷◌, ◌⊎◌, inl, inr, refl, sym, ap, ◌∙◌, subst, subst₂}
+-- In a quiet run each coordinator that knows a transaction has decided it, and its cohorts have applied it: it is quiet among all
+-- actors.
+use Rattle.std.proofs.Common.{ℕ, ◌<◌, List}
 use Rattle.std.specs.Prelude.{Contains}
 use Rattle.logical_time.specs.Stamps.{TxnValue}
 use Rattle.column_family.specs.declared.batch.Change.{Change}
-use Rattle.planner.specs.Plan.{coordinator_of, cohorts_of}
-use Rattle.messages.specs.Topology.{TopologyValue, dc_of, shard_of, shard_node}
-use Rattle.messages.specs.Shard.{Role, Own, Cohort, Replica, BegunBallot}
-use Rattle.messages.proofs.Numbering.{number_of_shard}
+use Rattle.planner.specs.Plan.{cohorts_of}
+use Rattle.messages.specs.Topology.{TopologyValue}
+use Rattle.messages.specs.Shard.{BegunBallot}
 use Rattle.world.specs.Run.{Run, Submission}
-use Rattle.world.specs.Quiet.{IsQuiet}
-use Rattle.world.proofs.safety.Facts.{txn_of, IsWritten, near, lead, RoleFits, StampFits, Sees}
+use Rattle.world.specs.Quiet.{IsQuiet, IsQuietAmong}
+use Rattle.world.proofs.safety.Facts.{IsWritten, near, lead, Sees}
 use Rattle.world.proofs.safety.Invariant.{Inv}
-use Rattle.world.proofs.safety.OneBatch.{written_at, submitted_one, batch_one}
-use Rattle.world.proofs.envelopes.Near.{cohort_below, cohort_other, near_dc, lead_dc, lead_number}
-use Rattle.world.proofs.envelopes.About.{Kind, OfBegin, OfPrepare, OfYes, OfCommit, OfPrepareRemote, kind_of, Sent}
-use Rattle.world.proofs.under_way.Underway.{HasDecision, Knows, vote_of, Leads, RoleLive, Acted, Live}
-use Rattle.world.proofs.lists.Members.{none_in_empty, contains_first, contains_rest, contains_cases, contains_at}
+use Rattle.world.proofs.envelopes.About.{Kind, Sent}
+use Rattle.world.proofs.under_way.Underway.{HasDecision, Knows, Leads, Acted, Live}
+use Rattle.world.proofs.lists.Members.{contains_at}
+use Rattle.world.proofs.quiet.Among as among
 
--- ## Lists
+-- every actor
+abbrev pub Everyone : ℕ → Type 0
+Everyone node = Unit {0}
 
--- each element has the property, or something else is so
-pub each_or : {X : Type 0} {P : X → Type 0} {Q : Type 0} (xs : List X) → ((x : X) → Contains xs x → P x ⊎ Q) → ((x : X) → Contains xs x → P x) ⊎ Q
-each_or [] f = inl (λ x m. absurd (none_in_empty x m))
-each_or {X} {P} {Q} (y ∷ ys) f = go (f y (contains_first y ys)) (each_or ys (λ x m. f x (contains_rest y x ys m)))
-  where
-    go : P y ⊎ Q → ((x : X) → Contains ys x → P x) ⊎ Q → ((x : X) → Contains (y ∷ ys) x → P x) ⊎ Q
-    go (inr q) r = inr q
-    go (inl p) (inr q) = inr q
-    go (inl p) (inl g) = inl (λ x m. elim (contains_cases y x ys m) [ inl e ↦ subst P (sym e) p | inr n ↦ g x n ])
+pub quiet_among_all : (w : Run) → IsQuiet w → IsQuietAmong Everyone w
+quiet_among_all w quiet e m from to = let g = contains_at w.sent e m in (g.0, quiet g.0 g.2, g.1)
 
 module _ (top : TopologyValue) (w : Run) (some : 0 < top.shards) (inv : Inv top w) (live : Live top w) (quiet : IsQuiet w) where
+  all : IsQuietAmong Everyone w
+  all = quiet_among_all w quiet
+
   -- what was sent was handled, so it left what it leaves
   pub act : (s r : ℕ) (k : Kind) → Sent w.sent s r k → Acted top w s r k
-  act s r k m =
-      let g = contains_at w.sent m.message m.among in
-      let a = live.acted g.0 m.message (quiet g.0 g.2) g.1 in
-      subst (λ z. Acted top w s r z) m.is (subst₂ (λ a b. Acted top w a b (kind_of m.message.body)) m.by m.for a)
-
-  -- ## Cohorts aren't coordinators
-
-  -- a cohort decides nothing
-  pub cohort_undecided : (node : ℕ) (t : TxnValue) (b : Submission) (batch : List Change) → IsWritten w t b batch
-      → Contains (cohorts_of top.shards batch) (shard_of top node) → HasDecision (w.shards node) t → ⊥
-  cohort_undecided node t b batch k m d =
-      let ds = (inv.shards node).decided d.0 d.1 in
-      let same = batch_one inv.submitted (written_at d.2 ds.written) k in
-      cohort_other top.shards batch (shard_of top node) m (lead_number top node (dc_of top node) ds.batch some ds.here ∙ ap (coordinator_of top.shards) same)
-
-  -- ## A coordinator that knows its transaction has decided it
-
-  -- a part that a cohort prepared has its vote, unless it is decided
-  role_vote : (r : Role) (c s : ℕ) (t : TxnValue) (batch : List Change) → Contains (cohorts_of top.shards batch) (shard_of top c)
-      → RoleFits r top batch c → RoleLive r w c s t
-      → Acted top w c s (OfYes t)
-  role_vote Own c s t batch m fits k = absurd (cohort_other top.shards batch (shard_of top c) m fits)
-  role_vote Cohort c s t batch m fits k = act c s (OfYes t) k
-  role_vote Replica c s t batch m fits k = act c s (OfYes t) k.0
-
-  cohort_vote : (c s : ℕ) (t : TxnValue) (b : Submission) (batch : List Change) → IsWritten w t b batch → s ≡ lead top (dc_of top c) batch
-      → Contains (cohorts_of top.shards batch) (shard_of top c) → Knows (w.shards c) t
-      → Acted top w c s (OfYes t)
-  cohort_vote c s t b batch k here m (inr d) = absurd (cohort_undecided c t b batch k m d)
-  cohort_vote c s t b batch k here m (inl (p, i, e)) =
-      let ps = (inv.shards c).prepared p i in
-      let same = batch_one inv.submitted (written_at e ps.written) k in
-      let to : near top c p.coordinator ≡ s = ap (near top c) (ps.coordinator ∙ ap (coordinator_of top.shards) same) ∙ sym here in
-      role_vote p.role c s t batch m (subst (λ z. RoleFits p.role top z c) same ps.role)
-      (subst₂ (λ n u. RoleLive p.role w c n u) to e ((live.shards c).entries.prepared p i))
-
-  -- each cohort of a ballot was asked
-  asked : (s : ℕ) (u : BegunBallot) → Contains (w.shards s).ballots u → (c : ℕ) → Contains u.cohorts c → Knows (w.shards (near top s c)) u.txn
-  asked s u m c i =
-      let bs = (inv.shards s).ballots u m in
-      elim ((live.shards s).entries.ballots u m).1 [
-        | inl none ↦
-            let home : dc_of top s ≡ bs.submission.home = subst (λ z. StampFits top w s (w.shards s).clock bs.submission bs.batch z) none bs.stamp in
-            let p = (live.submitted bs.submission bs.batch bs.written.among bs.written.op).prepared c (subst (λ l. Contains l c) bs.cohorts i) in
-            let q = subst (λ d. Sent w.sent bs.submission.session (shard_node top d c) (OfPrepare (txn_of bs.submission))) (sym home) p in
-            subst (λ t. Knows (w.shards (near top s c)) t) bs.written.txn (act bs.submission.session (near top s c) (OfPrepare (txn_of bs.submission)) q)
-        | inr y ↦ act s (near top s c) (OfPrepareRemote u.txn) (y.1 c i)
-      ]
-
-  -- an early vote for a ballot is counted: nobody votes early in another data centre
-  early_counted : (s m : ℕ) (u : BegunBallot) → Contains (w.shards s).ballots u → Contains (w.shards s).early (vote_of u.txn m)
-      → Contains (w.shards s).votes (vote_of u.txn m)
-  early_counted s m u i v =
-      elim ((live.shards s).entries.ballots u i).1 [
-        | inl none ↦ (live.shards s).counted u (vote_of u.txn m) i none v refl
-        | inr y ↦
-            let o = ((live.shards s).entries.early (vote_of u.txn m) v).0 in
-            absurd (y.0.away (o.here ∙ ap (λ z. z.home) (submitted_one inv.submitted o.written y.0.written)))
-      ]
+  act s r k m = among.act top w some inv live Everyone all s r k tt tt m
 
   pub ballot_decided : (s : ℕ) (u : BegunBallot) → Contains (w.shards s).ballots u → HasDecision (w.shards s) u.txn
-  ballot_decided s u i =
-      elim (each_or u.cohorts vote) [
-        | inl all ↦ (live.shards s).voted u i all
-        | inr d ↦ d
-      ]
-    where
-      counted : (m : ℕ) → Acted top w m s (OfYes u.txn) → Contains (w.shards s).votes (vote_of u.txn m) ⊎ HasDecision (w.shards s) u.txn
-      counted m (inl v) = inl v
-      counted m (inr (inl v)) = inl (early_counted s m u i v)
-      counted m (inr (inr d)) = inr d
-
-      vote : (c : ℕ) → Contains u.cohorts c → Contains (w.shards s).votes (vote_of u.txn (near top s c)) ⊎ HasDecision (w.shards s) u.txn
-      vote c j =
-          let bs = (inv.shards s).ballots u i in
-          let n = subst (λ l. Contains l c) bs.cohorts j in
-          let lt = cohort_below top.shards bs.batch c n in
-          counted (near top s c)
-          (cohort_vote (near top s c) s u.txn bs.submission bs.batch bs.written
-          (bs.here ∙ ap (λ d. lead top d bs.batch) (sym (near_dc top s c lt)))
-          (subst (λ z. Contains (cohorts_of top.shards bs.batch) z) (sym (number_of_shard top (dc_of top s) c lt)) n)
-          (asked s u i c j))
-
-  -- what a coordinator prepared has its ballot
-  own_decided : (r : Role) (s c : ℕ) (t : TxnValue) (batch : List Change) → shard_of top s ≡ coordinator_of top.shards batch → RoleFits r top batch s
-      → RoleLive r w s c t → HasDecision (w.shards s) t
-  own_decided Own s c t batch e fits k = let d = ballot_decided s k.0 k.1 in (d.0, d.1, d.2 ∙ k.2)
-  own_decided Cohort s c t batch e fits k = absurd (cohort_other top.shards batch (shard_of top s) fits e)
-  own_decided Replica s c t batch e fits k = absurd (cohort_other top.shards batch (shard_of top s) fits e)
+  ballot_decided s u i = among.ballot_decided top w some inv live Everyone all s (λ c lt. tt) u tt i
 
   pub known_decided : (s : ℕ) (t : TxnValue) → Leads top w s t → Knows (w.shards s) t → HasDecision (w.shards s) t
-  known_decided s t l (inr d) = d
-  known_decided s t l (inl (p, i, e)) =
-      let ps = (inv.shards s).prepared p i in
-      let same = batch_one inv.submitted (written_at e ps.written) l.written in
-      own_decided p.role s (near top s p.coordinator) t l.batch (lead_number top s (dc_of top s) l.batch some l.here)
-      (subst (λ z. RoleFits p.role top z s) same ps.role) (subst (λ u. RoleLive p.role w s (near top s p.coordinator) u) e ((live.shards s).entries.prepared p i))
-
-  -- ## Where it was submitted
-
-  pub lead_leads : (dc : ℕ) (t : TxnValue) (b : Submission) (batch : List Change) → IsWritten w t b batch → Leads top w (lead top dc batch) t
-  lead_leads dc t b batch k =
-      record { submission = b; batch = batch; written = k; here = ap (λ d. lead top d batch) (sym (lead_dc top dc batch some)) }
+  known_decided s t l k = among.known_decided top w some inv live Everyone all s (λ c lt. tt) t tt l k
 
   pub home_decided : (t : TxnValue) (b : Submission) (batch : List Change) → IsWritten w t b batch → HasDecision (w.shards (lead top b.home batch)) t
-  home_decided t b batch k =
-      let s = lead top b.home batch in
-      known_decided s t (lead_leads b.home t b batch k)
-      (subst (λ u. Knows (w.shards s) u) k.txn (act b.session s (OfBegin (txn_of b)) (live.submitted b batch k.among k.op).begun))
+  home_decided t b batch k = among.home_decided top w some inv live Everyone all t b batch k (λ c lt. tt) tt
 
   -- the cohorts of what is decided have applied it
   pub cohort_applied : (s : ℕ) (t : TxnValue) (b : Submission) (batch : List Change) → IsWritten w t b batch → HasDecision (w.shards s) t → (c : ℕ)
       → Contains (cohorts_of top.shards batch) c → Sees (w.shards (near top s c)).applied t
-  cohort_applied s t b batch k (d, i, e) c m =
-      let l = (live.shards s).entries.decided d i in
-      let same = batch_one inv.submitted (written_at e l.written) k in
-      let r = act s (near top s c) (OfCommit d.txn) (l.cohorts c (subst (λ z. Contains (cohorts_of top.shards z) c) (sym same) m)) in
-      (r.0, r.1, r.2 ∙ e)
+  cohort_applied s t b batch k d c m = among.cohort_applied top w some inv live Everyone all s (λ c lt. tt) t b batch k d c m

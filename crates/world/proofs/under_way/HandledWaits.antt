@@ -70,7 +70,7 @@ nonempty : (ts : List TxnValue) → not (is_nothing ts) ≡ true → (t : TxnVal
 nonempty [] e = absurd (false≢true e)
 nonempty (t ∷ ts) e = (t, contains_first t ts)
 
-less_left : (t : TxnValue) (p : WaitingRead → Bool) (y : WaitingRead) (u : TxnValue) → Contains (less t p y).left u → Contains y.left u × (p y ≡ true → u ≡ t → ⊥)
+pub less_left : (t : TxnValue) (p : WaitingRead → Bool) (y : WaitingRead) (u : TxnValue) → Contains (less t p y).left u → Contains y.left u × (p y ≡ true → u ≡ t → ⊥)
 less_left t p y u = go (p y) refl
   where
     go : (b : Bool) → p y ≡ b → Contains (cond b (record y { left = without t y.left }) y).left u → Contains y.left u × (p y ≡ true → u ≡ t → ⊥)
