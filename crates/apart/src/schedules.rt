@@ -1,4 +1,5 @@
-//! Schedules: who asks what where, and what comes when. A step is `write DC KEY.. VALUE`, `read DC KEY..`, `move DC TO` or `mail FROM TO HOW`.
+//! Schedules: who asks what where, and what comes when. A step is `write DC KEY.. VALUE`, `read DC KEY..`, `move DC TO`, `leave DC`
+//! or `mail FROM TO HOW`.
 use crate::building;
 use crate::mail::How;
 use crate::stores::Stores;
@@ -6,7 +7,7 @@ use logical_time::Fault;
 use messages::Op;
 use std::alloc::Global;
 
-const SCHEDULES: [(&str, &str); 11] = [
+const SCHEDULES: [(&str, &str); 12] = [
     (
         "a write comes to the others",
         "write 0 r a; read 0 r; read 1 r; mail 0 1 forward; read 1 r; read 2 r; mail 0 2 forward; read 2 r",
@@ -51,6 +52,10 @@ const SCHEDULES: [(&str, &str); 11] = [
         "a session that moved is answered from there",
         "write 1 r b; move 0 1; read 0 r; read 0 r; mail 0 1 forward; mail 1 0 forward; read 0 r",
     ),
+    (
+        "who comes behind one that left is told nothing of what that one asked",
+        "move 0 1; write 0 r a; leave 0; mail 0 1 forward; mail 1 0 forward; write 1 r b; write 0 r a; read 1 r; mail 0 1 forward; mail 1 0 forward; write 0 r a; read 1 r",
+    ),
 ];
 
 // What a request came to, in words.
@@ -82,6 +87,10 @@ fn take(alloc: Global, stores: &mut Stores, step: &str) -> Result<String, Fault>
                 dc: to.parse().unwrap_or(0),
             };
             ask(alloc, stores, dc, op)
+        }
+        ["leave", dc] => {
+            stores.leave(dc.parse().unwrap_or(0));
+            Ok(String::new(alloc))
         }
         ["mail", from, to, how] => {
             let (from, to) = (from.parse().unwrap_or(0), to.parse().unwrap_or(0));

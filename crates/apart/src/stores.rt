@@ -127,6 +127,13 @@ impl Stores {
         answer
     }
 
+    /// Who asked by the session at home in a data centre is gone.
+    pub(crate) fn leave(&mut self, dc: u16) {
+        if let Some(site) = self.sites.get_mut(usize::from(dc)) {
+            site.leave(&[0]);
+        }
+    }
+
     /// What the site of one data centre sent to that of another comes there so.
     pub(crate) fn carry(
         &mut self,

@@ -1,8 +1,9 @@
 -- Places in a round, step by step.
-use Rattle.std.proofs.Common.{◌≡◌, ◌∙◌, ◌<◌, ◌+◌, ℕ, zero, suc, List, All, [], ◌∷◌, ◌++◌, take, length, Bool, true, false, Option, Some, None, Result, Ok, Err, refl, sym, ap, subst, inl, inr, arith}
+use Rattle.std.proofs.Common.{◌≡◌, ◌∙◌, ◌<◌, ◌+◌, ℕ, zero, suc, List, All, [], ◌∷◌, ◌++◌, take, drop, length, Bool, true, false, Option, Some, None, Result, Ok, Err, refl, sym, ap, subst, inl, inr, arith}
 use Rattle.std.specs.Prelude.{◌⊎◌, slice_get, slice_set}
 use Rattle.std.specs.List.{Contains}
-use Rattle.std.proofs.lemmas.List.Elements.{All-head, All-tail, Contains-push, Contains-push_cases, Contains-append_left}
+use Rattle.std.proofs.lemmas.List.{take-append-drop}
+use Rattle.std.proofs.lemmas.List.Elements.{All-head, All-tail, Contains-push, Contains-push_cases, Contains-append_left, Contains-append_right, Contains-append_cases}
 use Rattle.std.proofs.lemmas.Bool.{cases_eq}
 use Rattle.readiness.specs.declared.connection.Connection.{Connection}
 use Rattle.logical_time.specs.declared.fault.Fault.{Fault}
@@ -148,6 +149,14 @@ noted_fewer {L = L} xs free rest place split taken noted k is =
     elim (Contains-push_cases rest place k (subst (λ (t : List ℕ). Contains t k) split (noted k is))) [
       | inl h ↦ h
       | inr e ↦ absurd (taken (subst (λ (i : ℕ). slice_get xs i ≡ Some None) (sym e) is))
+    ]
+
+-- the last ones are put before all others
+pub noted_put_off : {L : Type 0} (xs : List (Option (Connection L))) (free : List ℕ) (n : ℕ) → AreNoted xs free → AreNoted xs (drop n free ++ take n free)
+noted_put_off {L = L} xs free n noted k is =
+    elim (Contains-append_cases (take n free) (drop n free) k (subst (λ (t : List ℕ). Contains t k) (sym (take-append-drop n free)) (noted k is))) [
+      | inl first ↦ Contains-append_right (drop n free) (take n free) k first
+      | inr last ↦ Contains-append_left (drop n free) (take n free) k last
     ]
 
 -- a place is freed, and noted

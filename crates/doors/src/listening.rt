@@ -1,5 +1,5 @@
 //! Doors: those who come by a door, each at a place, in rounds.
-ghost use Rattle.std.specs.Prelude.{◌≡◌, ◌++◌, ◌⊎◌, [], ℕ, List, All, true, false, None, Some, OnOk, IfOk, count_by, is_some, length};
+ghost use Rattle.std.specs.Prelude.{◌≡◌, ◌++◌, ◌⊎◌, ◌-◌, [], ℕ, List, All, true, false, None, Some, OnOk, IfOk, IfSome, IfNone, count_by, is_some, length, take, drop, slice_get};
 ghost use Rattle.readiness.specs.declared.connection.TheConstants.{LIMIT};
 ghost use Rattle.readiness.specs.Exchanges.{Entry, LogChain};
 ghost use Rattle.readiness.specs.Places.{waiting_in};
@@ -173,6 +173,32 @@ impl<L: ReadyLine + Drop, D: Doorway<L> + Drop> Doors<L, D> {
         ensures { result ≡ true → All (λ c. c ≡ None) self.now.hall.places.places.items }
     {
         self.hall.places.are_free()
+    }
+
+    /// The places that were offered to those who came in the last round. No other was given to one who came in it.
+    pub fn fresh(&self) -> &[usize]
+        ensures { result.now ≡ self.now.hall.fresh.items }
+    {
+        &self.hall.fresh
+    }
+
+    /// The free place that is given next; none where none is free.
+    pub fn next_free(&self) -> Option<usize>
+        ensures some { IfSome result (λ place. slice_get self.now.hall.free.items (length self.now.hall.free.items - 1) ≡ Some place) }
+        ensures none { IfNone result (self.now.hall.free.items ≡ []) }
+    {
+        self.hall.free.last().copied()
+    }
+
+    /// The free place that is given next is given last, behind all other free ones. Linear in these.
+    pub fn put_off(&mut self)
+        ensures stays { self.new ≡ record self.old { hall = record self.old.hall { free = self.new.hall.free } } }
+        ensures last { self.new.hall.free.items ≡ drop (length self.old.hall.free.items - 1) self.old.hall.free.items ++ take (length self.old.hall.free.items - 1) self.old.hall.free.items }
+        ensures sound { IsSound L.seen D.nobody self.old → IsSound L.seen D.nobody self.new }
+    {
+        if !self.hall.free.is_empty() {
+            self.hall.free.rotate_right(1);
+        }
     }
 
     // How long a round waits: not at all where a connection was promised a turn, and not for long where somebody may

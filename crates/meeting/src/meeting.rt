@@ -309,6 +309,12 @@ impl<R: Net + RandomSource, N: Watcher + Drop> Ways for Meeting<'_, R, N> {
         }
     }
 
+    fn confirm(&mut self) {
+        for peer in &mut self.peers {
+            peer.confirm();
+        }
+    }
+
     fn is_behind(&self) -> bool {
         is_behind(&self.peers, self.own.behind)
     }

@@ -48,6 +48,8 @@ pub struct Peer {
     inbound: Inbound,
     // The connection that the other site made, on which its parcels come.
     pub(crate) answering: Option<Call>,
+    // Below which number all is kept here for good, so that it may be told so.
+    confirmed: u64,
     // What it was told last was taken.
     told: u64,
     refused: bool,
@@ -70,6 +72,7 @@ impl Peer {
             pause: PAUSE,
             inbound: Inbound::after(other.taken),
             answering: None,
+            confirmed: other.taken,
             told: 0,
             refused: false,
         }
@@ -134,10 +137,17 @@ impl Peer {
         self.call_at = 0;
         self.pause = PAUSE;
         let mut call = call;
-        self.told = self.inbound.next();
+        self.told = self.confirmed;
         call.say_taken(self.told)?;
         self.answering = Some(call);
         Ok(())
+    }
+
+    /// All that was taken from it is kept here for good: it may be told so.
+    pub(crate) fn confirm(&mut self)
+        ensures ends { KeepsEnds self.old self.new }
+    {
+        self.confirmed = self.inbound.next();
     }
 
     /// Whether it should be called now.
@@ -243,11 +253,10 @@ impl Peer {
                 self.hang_up(time);
             }
         }
-        let taken = self.inbound.next();
         if let Some(call) = &mut self.answering {
-            if taken > self.told {
-                call.say_taken(taken)?;
-                self.told = taken;
+            if self.confirmed > self.told {
+                call.say_taken(self.confirmed)?;
+                self.told = self.confirmed;
             }
             call.keep(time)?;
             call.write(time);

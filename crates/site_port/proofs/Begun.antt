@@ -102,24 +102,24 @@ begun refuses node a o number late (Err fault) b kept (between, ends, s, t) =
 -- ## What is open at a place
 
 pub holds_put : (b : SiteValue) (sessions : List ℕ) (waits : List (Option Waiting)) (late : List Late) (place node : ℕ) (y z : Option Waiting) → Holds b sessions waits late → slice_get sessions place ≡ Some node → slice_get waits place ≡ Some z
-    → ((v : Waiting) → y ≡ Some v → op_at b.story node v.number ≡ Some v.op) → Holds b sessions (slice_set waits place y) late
+    → ((v : Waiting) (o : Op) → y ≡ Some v → v.op ≡ Some o → op_at b.story node v.number ≡ Some o) → Holds b sessions (slice_set waits place y) late
 holds_put b sessions waits late place node y z h session there right =
     record {
       sessions_are = h.sessions_are;
       places = length_set waits place y ∙ h.places;
-      submitted = λ p n v at is. by (same_or_not place p) n v at is;
+      submitted = λ p n v o at is has. by (same_or_not place p) n v o at is has;
       ended = h.ended;
     }
   where
-    by : {p : ℕ} → (place ≡ p) ⊎ (place ≡ p → ⊥) → (n : ℕ) (v : Waiting) → slice_get sessions p ≡ Some n → slice_get (slice_set waits place y) p ≡ Some (Some v) → op_at b.story n v.number ≡ Some v.op
-    by {p} (inl q) n v at is =
+    by : {p : ℕ} → (place ≡ p) ⊎ (place ≡ p → ⊥) → (n : ℕ) (v : Waiting) (o : Op) → slice_get sessions p ≡ Some n → slice_get (slice_set waits place y) p ≡ Some (Some v) → v.op ≡ Some o → op_at b.story n v.number ≡ Some o
+    by {p} (inl q) n v o at is has =
         let put : slice_get (slice_set waits place y) place ≡ Some y = get_set waits place y z there in
         let put_p : slice_get (slice_set waits place y) p ≡ Some y = subst (λ j. slice_get (slice_set waits place y) j ≡ Some y) q put in
         let session_p : slice_get sessions p ≡ Some node = subst (λ j. slice_get sessions j ≡ Some node) q session in
         let same_y : y ≡ Some v = cc in
         let same_n : node ≡ n = cc in
-        subst (λ m. op_at b.story m v.number ≡ Some v.op) same_n (right v same_y)
-    by {p} (inr ne) n v at is = h.submitted p n v at (sym (get_elsewhere waits place p y ne) ∙ is)
+        subst (λ m. op_at b.story m v.number ≡ Some o) same_n (right v o same_y has)
+    by {p} (inr ne) n v o at is has = h.submitted p n v o at (sym (get_elsewhere waits place p y ne) ∙ is) has
 
 -- ## Answers
 
@@ -130,13 +130,13 @@ taken_told refuses place node number v old new o told outcome view b is waits st
     (record { number = number; told = told; begun = b; answered = subst (λ t. IsAnswer place number o v.waiting t (Ok outcome) new.waiting) (sym is) (refl, waits); still = still })
 
 pub taken_busy : (refuses : Refuses) (place node number : ℕ) (v old new : PortValue) (o : Op) (told : Result (Option Outcome) Fault) (fault : Fault) → v ≡ old → HasBegun refuses node v.site o number v.late told new.site new.late
-    → told ≡ Ok None → fault ≡ Busy → new.waiting ≡ slice_set v.waiting place (Some (record { number = number; op = o })) → new.behind ≡ v.behind → IsTaken refuses place node old o (Err fault) new
+    → told ≡ Ok None → fault ≡ Busy → new.waiting ≡ slice_set v.waiting place (Some (record { number = number; op = Some o })) → new.behind ≡ v.behind → IsTaken refuses place node old o (Err fault) new
 taken_busy refuses place node number v old new o told fault view b is busy waits still =
     subst (λ p. IsTaken refuses place node p o (Err fault) new) view
     (record { number = number; told = told; begun = b; answered = subst (λ t. IsAnswer place number o v.waiting t (Err fault) new.waiting) (sym is) (ap Err busy, waits); still = still })
 
 pub taken_fault : (refuses : Refuses) (place node number : ℕ) (v old new : PortValue) (o : Op) (told : Result (Option Outcome) Fault) (fault : Fault) → v ≡ old → HasBegun refuses node v.site o number v.late told new.site new.late
-    → told ≡ Err fault → new.waiting ≡ slice_set v.waiting place (Some (record { number = number; op = o })) → new.behind ≡ v.behind → IsTaken refuses place node old o (Err fault) new
+    → told ≡ Err fault → new.waiting ≡ slice_set v.waiting place (Some (record { number = number; op = Some o })) → new.behind ≡ v.behind → IsTaken refuses place node old o (Err fault) new
 taken_fault refuses place node number v old new o told fault view b is waits still =
     subst (λ p. IsTaken refuses place node p o (Err fault) new) view
     (record { number = number; told = told; begun = b; answered = subst (λ t. IsAnswer place number o v.waiting t (Err fault) new.waiting) (sym is) (refl, waits); still = still })
@@ -144,7 +144,8 @@ taken_fault refuses place node number v old new o told fault view b is waits sti
 pub on_told : (told : Result (Option Outcome) Fault) (outcome : Outcome) (P : Type 0) → told ≡ Ok (Some outcome) → OnOk told P → P
 on_told told outcome P is on = subst (λ t. OnOk t P) is on
 
-pub waits_right : (b : SiteValue) (node : ℕ) (o : Op) (w : Waiting) → w.op ≡ o → op_at b.story node w.number ≡ Some o → (v : Waiting) → Some w ≡ Some v → op_at b.story node v.number ≡ Some v.op
-waits_right b node o w is at v q =
+pub waits_right : (b : SiteValue) (node : ℕ) (o : Op) (w : Waiting) → w.op ≡ Some o → op_at b.story node w.number ≡ Some o → (v : Waiting) (x : Op) → Some w ≡ Some v → v.op ≡ Some x → op_at b.story node v.number ≡ Some x
+waits_right b node o w is at v x q has =
     let same : w ≡ v = cc in
-    subst (λ (z : Waiting). op_at b.story node z.number ≡ Some z.op) same (at ∙ ap Some (sym is))
+    let it : Some o ≡ Some x = sym is ∙ ap (λ (z : Waiting). z.op) same ∙ has in
+    subst (λ (z : Waiting). op_at b.story node z.number ≡ Some x) same (at ∙ it)

@@ -105,7 +105,7 @@ holds_on a b happened sessions waits late kept h g ends =
     record {
       sessions_are = h.sessions_are ∙ (ap (λ t. sessions_of t a.dc) (sym g.topology) ∙ ap (λ d. sessions_of b.top d) (sym g.dc));
       places = h.places;
-      submitted = λ place node w at is. subst (λ s. op_at s node w.number ≡ Some w.op) (sym g.story) (op_at_on a.story happened node w.number w.op (h.submitted place node w at is));
+      submitted = λ place node w o at is has. subst (λ s. op_at s node w.number ≡ Some o) (sym g.story) (op_at_on a.story happened node w.number o (h.submitted place node w o at is has));
       ended = ends;
     }
 

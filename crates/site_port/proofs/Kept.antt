@@ -63,6 +63,6 @@ new_holds site sessions waits late are long free nothing =
     record {
       sessions_are = are;
       places = long;
-      submitted = λ place node w at is. absurd (none_open waits free place w is);
+      submitted = λ place node w o at is has. absurd (none_open waits free place w is);
       ended = subst (λ l. AreEnds site.story l) (sym nothing) (All-nil (λ (l : Late). Contains (outcomes site.story l.session) (l.number, l.outcome)));
     }

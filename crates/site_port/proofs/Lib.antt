@@ -5,6 +5,7 @@ pub mod Growing
 pub mod Places
 pub mod Going
 pub mod Kept
+pub mod Gone
 pub mod Collections
 pub mod Begun
 pub mod Serving

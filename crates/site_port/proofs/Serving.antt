@@ -49,7 +49,7 @@ taken_rest s node number outcome late rest e (before, after, is, now) =
 pub holds_taken : (b : SiteValue) (sessions : List ℕ) (waits : List (Option Waiting)) (late rest : List Late) (place node number : ℕ) (outcome : Outcome) (y z : Option Waiting) → Holds b sessions waits late → slice_get sessions place ≡ Some node
     → slice_get waits place ≡ Some z → y ≡ None → HasTaken node number late (Some outcome) rest → Holds b sessions (slice_set waits place y) rest
 holds_taken b sessions waits late rest place node number outcome y z h session there none taken =
-    let put = holds_put b sessions waits late place node y z h session there (λ v q. absurd (no_wait v q)) in
+    let put = holds_put b sessions waits late place node y z h session there (λ v o q has. absurd (no_wait v q)) in
     record { sessions_are = put.sessions_are; places = put.places; submitted = put.submitted; ended = taken_rest b.story node number outcome late rest h.ended taken }
   where
     no_wait : (v : Waiting) → y ≡ Some v → ⊥
@@ -92,7 +92,7 @@ module _ (refuses : Refuses) (place : ℕ) (v old : PortValue) (o : Op) (session
         (served (Err Busy) v (inr (w, at, inl ((none_taken.0, refl), refl, refl))) tt (went_same v.site v.site refl)))
 
     -- it has, and is told
-    pub step_told : (taken y : Option Waiting) (w : Waiting) (outcome : Outcome) (late : List Late) → slice_get v.waiting place ≡ Some taken → taken ≡ Some w → y ≡ None → HasTaken node w.number v.late (Some outcome) late → w.op ≡ o
+    pub step_told : (taken y : Option Waiting) (w : Waiting) (outcome : Outcome) (late : List Late) → slice_get v.waiting place ≡ Some taken → taken ≡ Some w → y ≡ None → HasTaken node w.number v.late (Some outcome) late → w.op ≡ Some o
         → v.site.sound ≡ true → IsStep refuses place old o (Ok outcome) (record v { waiting = slice_set v.waiting place y; late = late })
     step_told taken y w outcome late there is none is_taken same sound =
         let at : slice_get v.waiting place ≡ Some (Some w) = there ∙ ap Some is in
@@ -102,7 +102,7 @@ module _ (refuses : Refuses) (place : ℕ) (v old : PortValue) (o : Op) (session
           w.number,
           subst (λ l. slice_get l place ≡ Some node) h.sessions_are session,
           record {
-            submitted = subst (λ x. op_at v.site.story node w.number ≡ Some x) same (h.submitted place node w session at);
+            submitted = h.submitted place node w o session at same;
             ended = taken_ended v.site.story node w.number outcome v.late late h.ended is_taken;
           },
           sound,
@@ -111,7 +111,7 @@ module _ (refuses : Refuses) (place : ℕ) (v old : PortValue) (o : Op) (session
 
     -- it has, and another is asked for
     pub step_other : (taken y : Option Waiting) (w : Waiting) (outcome : Outcome) (late : List Late) (answer : Reply) (new : PortValue) → slice_get v.waiting place ≡ Some taken → taken ≡ Some w → y ≡ None
-        → HasTaken node w.number v.late (Some outcome) late → (w.op ≡ o → ⊥) → Asks refuses place node (record v { waiting = slice_set v.waiting place y; late = late }) o answer new
+        → HasTaken node w.number v.late (Some outcome) late → (w.op ≡ Some o → ⊥) → Asks refuses place node (record v { waiting = slice_set v.waiting place y; late = late }) o answer new
         → IsItsEnd place new o answer → WentOn v.site new.site → IsStep refuses place old o answer new
     step_other taken y w outcome late answer new there is none is_taken other asks ends on =
         let at : slice_get v.waiting place ≡ Some (Some w) = there ∙ ap Some is in

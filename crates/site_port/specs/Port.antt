@@ -82,8 +82,8 @@ IsDeclined refuses node old o fault new =
 -- place, and is answered with Busy where nothing more is to be done here, or with the fault of the site.
 abbrev pub IsAnswer : ℕ → ℕ → Op → List (Option Waiting) → Result (Option Outcome) Fault → Reply → List (Option Waiting) → Type 0
 IsAnswer place number o old (Ok (Some outcome)) answer new = (answer ≡ Ok outcome) × (new ≡ old)
-IsAnswer place number o old (Ok None) answer new = (answer ≡ Err Busy) × (new ≡ slice_set old place (Some (record { number = number; op = o })))
-IsAnswer place number o old (Err fault) answer new = (answer ≡ Err fault) × (new ≡ slice_set old place (Some (record { number = number; op = o })))
+IsAnswer place number o old (Ok None) answer new = (answer ≡ Err Busy) × (new ≡ slice_set old place (Some (record { number = number; op = Some o })))
+IsAnswer place number o old (Err fault) answer new = (answer ≡ Err fault) × (new ≡ slice_set old place (Some (record { number = number; op = Some o })))
 
 -- the operation was submitted, as this one of the session, and what that ended is kept, or told
 pub record HasSubmittedAs (node : ℕ) (old : SiteValue) (o : Op) (number : ℕ) (late : List Late) (told : Option Outcome) (new : SiteValue) (kept : List Late) : Type 0 where
@@ -122,13 +122,14 @@ HasTaken node number old None new = All (λ l. is_awaited (Some (node, number)) 
 HasTaken node number old (Some outcome) new =
     (before : List Late) × (after : List Late) × (old ≡ before ++ record { session = node; number = number; outcome = outcome } ∷ after) × (new ≡ before ++ after)
 
--- The operation is still open: Busy. Or it has ended: who asks for the same is told so; who asks for another is served anew.
+-- The operation is still open: Busy. Or it has ended: who asked for it, and asks for the same again, is told so; who asks for another, or comes
+-- behind whoever asked, is served anew.
 abbrev pub AsksAgain : Refuses → ℕ → ℕ → PortValue → Waiting → Op → Reply → PortValue → Type 0
 AsksAgain refuses place node old w o answer new =
     (HasTaken node w.number old.late None old.late × (answer ≡ Err Busy) × (new ≡ old))
     ⊎ ((outcome : Outcome) × (late : List Late) × HasTaken node w.number old.late (Some outcome) late
-    × (((w.op ≡ o) × (answer ≡ Ok outcome) × (new ≡ record old { waiting = slice_set old.waiting place None; late = late }))
-    ⊎ (((w.op ≡ o) → ⊥) × Asks refuses place node (record old { waiting = slice_set old.waiting place None; late = late }) o answer new)))
+    × (((w.op ≡ Some o) × (answer ≡ Ok outcome) × (new ≡ record old { waiting = slice_set old.waiting place None; late = late }))
+    ⊎ (((w.op ≡ Some o) → ⊥) × Asks refuses place node (record old { waiting = slice_set old.waiting place None; late = late }) o answer new)))
 
 -- ## A step
 
@@ -162,11 +163,23 @@ pub record IsStep (refuses : Refuses) (place : ℕ) (old : PortValue) (o : Op) (
   pub ends : IsItsEnd place new o answer
   pub on : (happened : List Happening) × All IsDoing happened × GoesOnWith old.site happened new.site
 
+-- ## Who leaves
+
+-- what is open, where who asked for it is gone
+abbrev pub unasked : Option Waiting → Option Waiting
+unasked None = None
+unasked (Some w) = Some (record { number = w.number; op = None })
+
+-- Who stood at these places is gone, and what is open there is nobody's; at all others it stays.
+abbrev pub AreLeft : List ℕ → List (Option Waiting) → List (Option Waiting) → Type 0
+AreLeft places old new =
+    (length new ≡ length old) × ((k : ℕ) (w : Option Waiting) → slice_get old k ≡ Some w → (Contains places k × (slice_get new k ≡ Some (unasked w))) ⊎ ((Contains places k → ⊥) × (slice_get new k ≡ Some w)))
+
 -- ## What holds of it at each moment
 
--- what is open at a place was submitted by its session, with this number
+-- what is open at a place was submitted by its session, with this number, where who asked for it still stands there
 abbrev pub AreOpen : Story → List ℕ → List (Option Waiting) → Type 0
-AreOpen s sessions waits = (place node : ℕ) (w : Waiting) → slice_get sessions place ≡ Some node → slice_get waits place ≡ Some (Some w) → op_at s node w.number ≡ Some w.op
+AreOpen s sessions waits = (place node : ℕ) (w : Waiting) (o : Op) → slice_get sessions place ≡ Some node → slice_get waits place ≡ Some (Some w) → w.op ≡ Some o → op_at s node w.number ≡ Some o
 
 -- what is kept as an end is one
 abbrev pub AreEnds : Story → List Late → Type 0

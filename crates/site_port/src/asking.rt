@@ -1,5 +1,5 @@
 //! A request of a session that has nothing open.
-ghost use Rattle.std.specs.Prelude.{◌≡◌, ◌⊎◌, true, IfOk, OnOk, IfErr, OnErr};
+ghost use Rattle.std.specs.Prelude.{◌≡◌, ◌⊎◌, true, Some, IfOk, OnOk, IfErr, OnErr};
 ghost use Rattle.messages.specs.Topology.{is_session};
 ghost use Rattle.messages.specs.declared.event.ActorEvent.TheVariants.{Submit};
 ghost use Rattle.site.specs.Story.{is_here as keeps_actor};
@@ -40,7 +40,7 @@ pub(crate) fn ask<M: Machine, D: Disk>(
 ) -> Result<Begun, Fault>
     requires session { is_session site.old.site.top node ≡ true }
     requires here { keeps_actor site.old.site.top site.old.site.dc node ≡ true }
-    ensures begun { IfOk result (λ b. HasBegun M.refuses node site.old.site op b.waiting.number late.old.items b.told site.new.site late.new.items × (b.waiting.op ≡ op)) }
+    ensures begun { IfOk result (λ b. HasBegun M.refuses node site.old.site op b.waiting.number late.old.items b.told site.new.site late.new.items × (b.waiting.op ≡ Some op)) }
     ensures sound { IfOk result (λ b. OnOk b.told (site.new.site.sound ≡ true)) }
     ensures declined { IfErr result (λ e. ((e ≡ Fault.Memory) × (site.new.site ≡ site.old.site)) ⊎ IsRefused M.refuses site.old.site node (Submit op) e site.new.site) }
     ensures same { OnErr result (late.new.items ≡ late.old.items) }
@@ -56,6 +56,9 @@ pub(crate) fn ask<M: Machine, D: Disk>(
     };
     Ok(Begun {
         told,
-        waiting: Waiting { number, op: copy },
+        waiting: Waiting {
+            number,
+            op: Some(copy),
+        },
     })
 }

@@ -6,6 +6,7 @@
 
 mod asking;
 mod collecting;
+mod leaving;
 mod recalling;
 mod sessions;
 mod turns;

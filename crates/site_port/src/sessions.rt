@@ -7,17 +7,17 @@ ghost use Rattle.site_ledger.specs.declared.entry.Entry.TheVariants.{Met};
 ghost use Rattle.durable_site.specs.Logged.{NotesToo};
 ghost use Rattle.site_port.specs.Ends.{GoesOnWith, HasTurns, HasStopped};
 ghost use Rattle.site_port.specs.Collecting.{clocks_of, HasCollected, HasBrokenOff};
-ghost use Rattle.site_port.specs.Port.{sessions_of, port_of, kept_of, is_batch as writes, Asks, IsItsEnd, IsDoing};
+ghost use Rattle.site_port.specs.Port.{sessions_of, port_of, kept_of, is_batch as writes, AreLeft, Asks, IsItsEnd, IsDoing};
 
 use crate::asking::{Begun, ask};
 use crate::collecting::{clocks_here, collect_all};
+use crate::leaving::leave_all;
 use crate::recalling::take_end;
 use crate::turns::take_turns;
 use crate::waiting::{Late, Waiting};
 use actors::Machine;
 use disk::Disk;
 use durable_site::DurableSite;
-use equality::same_op;
 use logical_time::{Fault, Node, Time};
 use messages::{Envelope, Op, Outcome, Topology};
 use readiness::SharedPort;
@@ -128,6 +128,23 @@ impl<M: Machine, D: Disk> SiteSessions<M, D> {
         ensures { self.new ≡ record self.old { behind = behind } }
     {
         self.behind = behind;
+    }
+
+    /// Whether something that the session at a place submitted has not been answered; not so past the last place.
+    pub fn is_open(&self, place: usize) -> bool
+        ensures yes { result ≡ true → (w : Waiting) × (slice_get self.now.waiting place ≡ Some (Some w)) }
+        ensures no { result ≡ false → (w : Waiting) → slice_get self.now.waiting place ≡ Some (Some w) → ⊥ }
+    {
+        matches!(self.waiting.get(place), Some(Some(_)))
+    }
+
+    /// Who stood at these places is gone. Who comes there is told nothing of what was asked before: what is open there ends unheard, and is
+    /// answered with Busy until then, also where the same is asked for. A place past the last one is left out. Linear in these.
+    pub fn leave(&mut self, places: &[usize])
+        ensures left { AreLeft places.now self.old.waiting self.new.waiting }
+        ensures stays { self.new ≡ record self.old { waiting = self.new.waiting } }
+    {
+        leave_all(&mut self.waiting, places);
     }
 
     /// Takes so many turns of the site at most, until nothing waits. Costs what they do. Refused as a turn is.
@@ -276,7 +293,7 @@ impl<M: Machine, D: Disk> SharedPort for SiteSessions<M, D> {
             self.waiting[place] = Some(waiting);
             return Err(Fault::Busy);
         };
-        if same_op(&waiting.op, &op) {
+        if waiting.is_for(&op) {
             return Ok(outcome);
         }
         self.ask_anew(place, node, op)

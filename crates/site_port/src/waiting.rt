@@ -1,4 +1,7 @@
 //! What isn't answered yet, and what nobody was told.
+ghost use Rattle.std.specs.Prelude.{◌≡◌, Some, true, false};
+
+use equality::same_op;
 use logical_time::Node;
 use messages::{Op, Outcome};
 
@@ -7,8 +10,21 @@ use messages::{Op, Outcome};
 pub struct Waiting {
     /// Its number among the session's, from 1.
     pub number: u64,
-    /// What was asked.
-    pub op: Op,
+    /// What was asked; none where who asked for it is gone.
+    pub op: Option<Op>,
+}
+
+impl Waiting {
+    /// Whether it was asked for by who stands at its place, and is the same as this.
+    pub(crate) fn is_for(&self, op: &Op) -> bool
+        ensures yes { result ≡ true → self.now.op ≡ Some op.now }
+        ensures no { result ≡ false → self.now.op ≡ Some op.now → ⊥ }
+    {
+        match &self.op {
+            Some(asked) => same_op(asked, op),
+            None => false,
+        }
+    }
 }
 
 /// The end of an operation that nobody was told yet.

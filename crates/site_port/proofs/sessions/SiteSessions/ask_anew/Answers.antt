@@ -1,4 +1,4 @@
-use Rattle.std.proofs.Common.{◌≡◌, slice_get, slice_set, Some, None, Ok, Err, inr, refl, sym, ap, subst, arith}
+use Rattle.std.proofs.Common.{◌≡◌, slice_get, slice_set, Option, Some, None, Ok, Err, inr, refl, sym, ap, subst, arith}
 use Rattle.messages.specs.declared.event.ActorEvent.TheVariants.{Submit}
 use Rattle.site_port.specs.Port.{PortValue, port_of, Holds, sessions_of}
 use Rattle.site_port.proofs.Places.{session_of_place}
@@ -87,8 +87,8 @@ invariant_of-self-2 g c =
 -- src/sessions.rt:157:5
 pub returns-clause-asks : goal.returns-clause-asks
 returns-clause-asks g c =
-    let waits : slice_set c.self.inside.waiting.items c.args.place (Some c.in_ok-told.field-0.waiting) ≡ slice_set c.self.inside.waiting.items c.args.place (Some (record { number = c.in_ok-told.field-0.waiting.number; op = c.args.op }))
-    = ap (λ (o : Op). slice_set c.self.inside.waiting.items c.args.place (Some (record { number = c.in_ok-told.field-0.waiting.number; op = o }))) c.in_ok-told.ensures.begun.1 in
+    let waits : slice_set c.self.inside.waiting.items c.args.place (Some c.in_ok-told.field-0.waiting) ≡ slice_set c.self.inside.waiting.items c.args.place (Some (record { number = c.in_ok-told.field-0.waiting.number; op = Some c.args.op }))
+    = ap (λ (o : Option Op). slice_set c.self.inside.waiting.items c.args.place (Some (record { number = c.in_ok-told.field-0.waiting.number; op = o }))) c.in_ok-told.ensures.begun.1 in
     elim c.match-told.branch [
       | in-Ok-None w ↦ inr (taken_busy g.M.Machine.refuses c.args.place c.args.node c.in_ok-told.field-0.waiting.number _ (port_of c.args.self.now) _ c.args.op c.in_ok-told.field-0.told c.match-told.fault (ap port_of c.self.view_is)
           c.in_ok-told.ensures.begun.0 (subst (λ x. c.in_ok-told.field-0.told ≡ Ok x) w.in-Ok-None.field-0-is w.in-Ok-None.is) w.fault-is waits refl)

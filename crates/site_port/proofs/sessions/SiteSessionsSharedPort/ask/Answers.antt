@@ -3,7 +3,6 @@ use Rattle.site.proofs.Lists.{get_set}
 use Rattle.site_port.specs.Port.{port_of}
 use Rattle.site_port.proofs.Serving.{at_place, holds_taken, holds_back, step_past, step_free, step_open, step_told, step_other}
 use Rattle.site_port.proofs.sessions.SiteSessionsSharedPort.ask.Goals as goal
-use Rattle.std.proofs.lemmas.Bool.{both_ways}
 
 pub returns-then-place-len-clause-step : goal.returns-then-place-len-clause-step
 returns-then-place-len-clause-step g c =
@@ -58,14 +57,14 @@ returns-in_default-take_end-clause-step g c =
     step_open g.M.Machine.refuses c.args.place _ (port_of c.args.self.now) c.args.op c.self.inside.sessions.items (ap port_of c.self.view_is) c.self.invariant c.index-node.result.now session
     c.take.result c.take.new.self c.in-Some.waiting c.take_end.new.late.items there c.in-Some.is c.in_default-take_end.ensures
 
-pub returns-then-same_op-clause-step : goal.returns-then-same_op-clause-step
-returns-then-same_op-clause-step g c =
+pub returns-then-is_for-clause-step : goal.returns-then-is_for-clause-step
+returns-then-is_for-clause-step g c =
     let short : c.args.place < length c.self.inside.sessions.items = omega (arith, c.if-place-len.false, c.len.ensures, c.self.inside.sessions.ok.0) in
     let session = at_place c.self.inside.sessions.items c.args.place c.index-node.result.now c.index-node.result.now short c.index-node.ensures refl in
     let within : c.args.place < length c.self.inside.waiting.items = subst (λ n. c.args.place < n) (sym c.self.invariant.places) short in
     let there = at_place c.self.inside.waiting.items c.args.place c.index_mut.result.now c.take.result within c.index_mut.ensures.value c.take.ensures.value in
     step_told g.M.Machine.refuses c.args.place _ (port_of c.args.self.now) c.args.op c.self.inside.sessions.items (ap port_of c.self.view_is) c.self.invariant c.index-node.result.now session
-    c.take.result c.take.new.self c.in-Some.waiting c.in-Some-take_end.outcome c.take_end.new.late.items there c.in-Some.is c.take.ensures.after c.in-Some-take_end.ensures (c.same_op.ensures.0 c.if-same_op.true)
+    c.take.result c.take.new.self c.in-Some.waiting c.in-Some-take_end.outcome c.take_end.new.late.items there c.in-Some.is c.take.ensures.after c.in-Some-take_end.ensures (c.is_for.ensures.yes c.if-is_for.true)
     (sym c.is_sound.ensures.value ∙ c.if-not-is_sound.false)
 
 pub ask_anew-requires-2-clause-session : goal.ask_anew-requires-2-clause-session
@@ -89,4 +88,4 @@ returns-clause-step g c =
     let there = at_place c.self.inside.waiting.items c.args.place c.index_mut.result.now c.take.result within c.index_mut.ensures.value c.take.ensures.value in
     step_other g.M.Machine.refuses c.args.place _ (port_of c.args.self.now) c.args.op c.self.inside.sessions.items (ap port_of c.self.view_is) c.self.invariant c.index-node.result.now session
     c.take.result c.take.new.self c.in-Some.waiting c.in-Some-take_end.outcome c.take_end.new.late.items c.ask_anew-2.result (port_of c.ask_anew-2.new.self) there c.in-Some.is c.take.ensures.after c.in-Some-take_end.ensures
-    (λ q. both_ways c.same_op.result c.if-same_op.false (c.same_op.ensures.1 q)) c.ask_anew-2.ensures.asks c.ask_anew-2.ensures.ends c.ask_anew-2.ensures.on
+    (c.is_for.ensures.no c.if-is_for.false) c.ask_anew-2.ensures.asks c.ask_anew-2.ensures.ends c.ask_anew-2.ensures.on
