@@ -1,1 +1,3 @@
+pub mod Breaking
 pub mod Passing
+pub mod Welcoming

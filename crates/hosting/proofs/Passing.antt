@@ -1,6 +1,6 @@
 -- What passes between requests, one thing after the other.
 use Rattle.std.proofs.Common.{◌≡◌, ◌∙◌, ℕ, Bool, true, false, List, [], ◌∷◌, ◌++◌, Option, Some, None, ◌⊎◌, inl, inr, refl, sym, ap, subst, append_assoc, append-nil, length-append, length, ◌+◌}
-use Rattle.std.specs.Prelude.{All, filter, filter_map, get_or, IfSome}
+use Rattle.std.specs.Prelude.{All, filter, filter_map, get_or, IfSome, Result, Ok, Err, OnErr}
 use Rattle.std.specs.Option.{unwrap_or}
 use Rattle.std.proofs.lemmas.List.Elements.{All-nil, All-cons, All-head, All-tail, All-append, filter_map-append, filter-append}
 use Rattle.logical_time.specs.declared.fault.Fault.{Fault}
@@ -10,15 +10,18 @@ use Rattle.messages.specs.Topology.{TopologyValue}
 use Rattle.site.specs.Story.{Story, Happening, Did, Heard, Given, site_of, may_come, given, given_by}
 use Rattle.site.specs.Steps.{steps, step_of}
 use Rattle.site.specs.Sites.{SiteValue}
-use Rattle.site.specs.Turns.{goes_on, HasGiven}
-use Rattle.site_port.specs.Ends.{ends_in, IsHandling, GoesOnWith, HasTurns}
-use Rattle.site_port.specs.Collecting.{clocks_of, IsCollection, HasCollected}
+use Rattle.actors.specs.Machines.{Refuses}
+use Rattle.messages.specs.declared.event.ActorEvent.{ActorEvent}
+use Rattle.messages.specs.declared.event.ActorEvent.TheVariants.{Handle, Collect}
+use Rattle.site.specs.Turns.{goes_on, HasGiven, HasBroken, IsRefused, IsTurnRefused}
+use Rattle.site_port.specs.Ends.{ends_in, IsHandling, GoesOnWith, HasTurns, HasStopped}
+use Rattle.site_port.specs.Collecting.{clocks_of, IsCollection, HasCollected, IsBroken, HasBrokenOff}
 use Rattle.site_port.specs.declared.waiting.Late.{Late}
 use Rattle.site_port.specs.Port.{PortValue, IsDoing}
 use Rattle.site_port.proofs.Turning.{goes_same, goes_then, ends_then}
-use Rattle.ways.specs.Crossings.{Crossing, Sent, Came, Refused, Nothing, Crosses, sent_by, brought_by}
+use Rattle.ways.specs.Crossings.{Crossing, Sent, Came, Refused, Confirmed, Nothing, Crosses, sent_by, brought_by}
 use Rattle.hosting.specs.declared.marks.Marks.{Marks}
-use Rattle.hosting.specs.Rounds.{is_due, AreMarked, IsPassing, gift, receipt, Passes, Matches, HasPassed}
+use Rattle.hosting.specs.Rounds.{is_due, AreMarked, IsPassing, gift, receipt, Passes, Matches, IsComing, IsGoing, HasPassed, LeavesNone, GivesSome}
 
 -- ## Nothing, and one after the other
 
@@ -64,31 +67,33 @@ passes_anyhow top dc times (Did node x sends ended) (inr (shard, time, within, a
 passes_anyhow top dc times (Heard from e) is = tt
 passes_anyhow top dc times (Given e) is = tt
 
-module _ {W : Type 0} (steps : W → Crossing → W → Type 0) (times : List ℕ) where
-  pub passed_none : (p : PortValue) (w : W) → HasPassed steps times p w p w
-  passed_none p w = record { happened = []; crossed = []; passed = passes_same times p; crosses = refl; matches = record { gifts = refl; receipts = refl } }
+module _ {W : Type 0} (may_cross : Crossing → Type 0) (steps : W → Crossing → W → Type 0) (times : List ℕ) where
+  pub passed_none : (p : PortValue) (w : W) → HasPassed may_cross steps times p w p w
+  passed_none p w = record { happened = []; crossed = []; only = All-nil may_cross; passed = passes_same times p; crosses = refl; matches = record { gifts = refl; receipts = refl } }
 
-  pub passed_then : (p q r : PortValue) (u v w : W) → HasPassed steps times p u q v → HasPassed steps times q v r w → HasPassed steps times p u r w
+  pub passed_then : (p q r : PortValue) (u v w : W) → HasPassed may_cross steps times p u q v → HasPassed may_cross steps times q v r w → HasPassed may_cross steps times p u r w
   passed_then p q r u v w f g =
       let there : Matches p.site.top p.site.dc g.happened g.crossed =
       (subst (λ d. Matches p.site.top d g.happened g.crossed) f.passed.went.dc (subst (λ t. Matches t q.site.dc g.happened g.crossed) f.passed.went.topology g.matches)) in
       record {
         happened = f.happened ++ g.happened;
         crossed = f.crossed ++ g.crossed;
+        only = All-append may_cross f.crossed g.crossed f.only g.only;
         passed = passes_then times p q r f.happened g.happened f.passed g.passed;
         crosses = crosses_then steps u v w f.crossed g.crossed f.crosses g.crosses;
         matches = matches_then p.site.top p.site.dc f.happened g.happened f.crossed g.crossed f.matches there;
       }
 
   -- the ways did nothing but reading and writing
-  pub passed_exchange : (p : PortValue) (u w : W) → steps u Nothing w → HasPassed steps times p u p w
-  passed_exchange p u w step = record { happened = []; crossed = Nothing ∷ []; passed = passes_same times p; crosses = (w, step, refl); matches = record { gifts = refl; receipts = refl } }
+  pub passed_exchange : (p : PortValue) (u w : W) → may_cross Nothing → steps u Nothing w → HasPassed may_cross steps times p u p w
+  passed_exchange p u w may step = record { happened = []; crossed = Nothing ∷ []; only = All-cons may_cross Nothing [] may (All-nil may_cross); passed = passes_same times p; crosses = (w, step, refl); matches = record { gifts = refl; receipts = refl } }
 
   -- what passes where no shard collects passes where some may
-  pub passed_anyhow : (p q : PortValue) (u v : W) → HasPassed steps [] p u q v → HasPassed steps times p u q v
+  pub passed_anyhow : (p q : PortValue) (u v : W) → HasPassed may_cross steps [] p u q v → HasPassed may_cross steps times p u q v
   passed_anyhow p q u v f = record {
     happened = f.happened;
     crossed = f.crossed;
+    only = f.only;
     passed = record {
       went = f.passed.went;
       passing = λ k d lt. passes_anyhow p.site.top p.site.dc times (get_or f.happened k d) (f.passed.passing k d lt);
@@ -143,24 +148,25 @@ no_receipts : (hs : List Happening) → All IsDoing hs → filter_map receipt hs
 no_receipts [] all = refl
 no_receipts (h ∷ hs) all = skips receipt h hs (none_heard h (All-head IsDoing h hs all)) (no_receipts hs (All-tail IsDoing h hs all))
 
-module _ {W : Type 0} (steps : W → Crossing → W → Type 0) (times : List ℕ) (p q : PortValue) (w : W) (waiting : q.waiting ≡ p.waiting) (behind : q.behind ≡ p.behind) where
+module _ {W : Type 0} (may_cross : Crossing → Type 0) (steps : W → Crossing → W → Type 0) (times : List ℕ) (p q : PortValue) (w : W) (waiting : q.waiting ≡ p.waiting) (behind : q.behind ≡ p.behind) where
   -- actors did this, and nothing crossed
-  passed_doings : (happened : List Happening) → GoesOnWith p.site happened q.site → All (IsPassing p.site.top p.site.dc times) happened → All IsDoing happened → q.late ≡ p.late ++ ends_in happened → HasPassed steps times p w q w
+  passed_doings : (happened : List Happening) → GoesOnWith p.site happened q.site → All (IsPassing p.site.top p.site.dc times) happened → All IsDoing happened → q.late ≡ p.late ++ ends_in happened → HasPassed may_cross steps times p w q w
   passed_doings happened went passing doing late = record {
     happened = happened;
     crossed = [];
+    only = All-nil may_cross;
     passed = record { went = went; passing = passing; waiting = waiting; late = late; behind = behind };
     crosses = refl;
     matches = record { gifts = no_gifts p.site.top happened doing; receipts = no_receipts happened doing };
   }
 
   -- turns of the site, none of which was refused
-  pub passed_turns : (most : ℕ) → HasTurns None most p.site p.late None q.site q.late → HasPassed steps times p w q w
+  pub passed_turns : (most : ℕ) → HasTurns None most p.site p.late None q.site q.late → HasPassed may_cross steps times p w q w
   passed_turns most t =
       passed_doings t.happened t.went (λ k d lt. handling_passes p.site.top p.site.dc times (get_or t.happened k d) (t.handled k d lt)) (λ k d lt. handling_does (get_or t.happened k d) (t.handled k d lt)) t.is_told.0
 
   -- its shards collected
-  pub passed_collections : HasCollected times p.site p.late q.site q.late → HasPassed steps times p w q w
+  pub passed_collections : HasCollected times p.site p.late q.site q.late → HasPassed may_cross steps times p w q w
   passed_collections t =
       passed_doings t.happened t.went (λ k d lt. collection_passes p.site.top p.site.dc times (get_or t.happened k d) (t.collected k d lt))
       (λ k d lt. collection_does p.site.top p.site.dc times (get_or t.happened k d) (t.collected k d lt)) t.ended
@@ -169,11 +175,12 @@ module _ {W : Type 0} (steps : W → Crossing → W → Type 0) (times : List �
 
 module _ {W : Type 0} (steps : W → Crossing → W → Type 0) (p q : PortValue) (w : W) where
   -- an envelope was given, and the ways took it for the site of the actor for which it is
-  pub passed_gift : (v : W) (to : ℕ) (e : Envelope) → HasGiven p.site (Some e) q.site → q ≡ record p { site = q.site } → to ≡ site_of p.site.top e.to → steps w (Sent to e) v → HasPassed steps [] p w q v
+  pub passed_gift : (v : W) (to : ℕ) (e : Envelope) → HasGiven p.site (Some e) q.site → q ≡ record p { site = q.site } → to ≡ site_of p.site.top e.to → steps w (Sent to e) v → HasPassed IsGoing steps [] p w q v
   passed_gift v to e g stays there step =
       record {
         happened = Given e ∷ [];
         crossed = Sent to e ∷ [];
+        only = All-cons IsGoing (Sent to e) [] tt (All-nil IsGoing);
         passed = record {
           went = record { topology = ap (λ (s : SiteValue). s.top) g.2; dc = ap (λ (s : SiteValue). s.dc) g.2; story = ap (λ (s : SiteValue). s.story) g.2; sound = λ z. sym (ap (λ (s : SiteValue). s.sound) g.2) ∙ z };
           passing = All-cons (IsPassing p.site.top p.site.dc []) (Given e) [] tt (All-nil (IsPassing p.site.top p.site.dc []));
@@ -186,11 +193,12 @@ module _ {W : Type 0} (steps : W → Crossing → W → Type 0) (p q : PortValue
       }
 
   -- one that came was heard
-  pub passed_receipt : (v : W) (from : ℕ) (e : Envelope) → q ≡ record p { site = goes_on p.site (Heard from e) } → may_come p.site.top p.site.dc from e ≡ true → steps w (Came from e) v → HasPassed steps [] p w q v
+  pub passed_receipt : (v : W) (from : ℕ) (e : Envelope) → q ≡ record p { site = goes_on p.site (Heard from e) } → may_come p.site.top p.site.dc from e ≡ true → steps w (Came from e) v → HasPassed IsComing steps [] p w q v
   passed_receipt v from e is allowed step =
       record {
         happened = Heard from e ∷ [];
         crossed = Came from e ∷ [];
+        only = All-cons IsComing (Came from e) [] tt (All-nil IsComing);
         passed = record {
           went = record { topology = ap (λ (z : PortValue). z.site.top) is; dc = ap (λ (z : PortValue). z.site.dc) is; story = ap (λ (z : PortValue). z.site.story) is; sound = λ z. sym (ap (λ (y : PortValue). y.site.sound) is) ∙ z };
           passing = All-cons (IsPassing p.site.top p.site.dc []) (Heard from e) [] tt (All-nil (IsPassing p.site.top p.site.dc []));
@@ -203,12 +211,13 @@ module _ {W : Type 0} (steps : W → Crossing → W → Type 0) (p q : PortValue
       }
 
   -- one that came and may not come from there was refused
-  pub passed_refusal : (u v : W) (from : ℕ) (e : Envelope) → q ≡ p → may_come p.site.top p.site.dc from e ≡ false → steps w (Came from e) u → steps u (Refused from) v → HasPassed steps [] p w q v
+  pub passed_refusal : (u v : W) (from : ℕ) (e : Envelope) → q ≡ p → may_come p.site.top p.site.dc from e ≡ false → steps w (Came from e) u → steps u (Refused from) v → HasPassed IsComing steps [] p w q v
   passed_refusal u v from e same stranger came refused =
-      subst (λ z. HasPassed steps [] p w z v) (sym same)
+      subst (λ z. HasPassed IsComing steps [] p w z v) (sym same)
       (record {
         happened = [];
         crossed = Came from e ∷ Refused from ∷ [];
+        only = All-cons IsComing (Came from e) (Refused from ∷ []) tt (All-cons IsComing (Refused from) [] tt (All-nil IsComing));
         passed = passes_same [] p;
         crosses = (u, came, (v, refused, refl));
         matches = record { gifts = refl; receipts = rw stranger refl };
@@ -247,6 +256,79 @@ pub collecting_gives_none : (times : List ℕ) (old new : SiteValue) (late kept 
 collecting_gives_none times old new late kept t =
     doing_gives_none old new t.happened t.went (λ k d lt. collection_does old.top old.dc times (get_or t.happened k d) (t.collected k d lt))
 
+-- neither does what breaks off
+doing_gives : (s : Story) (node : ℕ) (x : ActorEvent) (sends : List Envelope) (ended : Option _) → given (s ++ Did node x sends ended ∷ []) ≡ given s
+doing_gives s node x sends ended = filter_map-append given_by s (Did node x sends ended ∷ []) ∙ append-nil (given s)
+
+broken_gives : (old new : SiteValue) (node : ℕ) (x : ActorEvent) → HasBroken old node x new → given new.story ≡ given old.story
+broken_gives old new node x (sends, ended, bad, is) = ap (λ (s : SiteValue). given s.story) is ∙ doing_gives old.story node x sends ended
+
+refused_gives : (refuses : Refuses) (old new : SiteValue) (node : ℕ) (x : ActorEvent) (fault : Fault) → IsRefused refuses old node x fault new → given new.story ≡ given old.story
+refused_gives refuses old new node x fault (inl (same, why)) = ap (λ (s : SiteValue). given s.story) same
+refused_gives refuses old new node x fault (inr (sound, (is, broken))) = broken_gives old new node x broken
+
+turn_gives : (refuses : Refuses) (old new : SiteValue) (fault : Fault) → IsTurnRefused refuses old fault new → given new.story ≡ given old.story
+turn_gives refuses old new fault (inl (same, why)) = ap (λ (s : SiteValue). given s.story) same
+turn_gives refuses old new fault (inr (e, first, r)) = refused_gives refuses old new e.to (Handle e) fault r
+
+pub stopped_gives_none : (refuses : Refuses) (old new : SiteValue) (late kept : List Late) (fault : Fault) → HasStopped refuses None old late fault new kept → given new.story ≡ given old.story
+stopped_gives_none refuses old new late kept fault t =
+    turn_gives refuses t.between new fault t.refused ∙ doing_gives_none old t.between t.happened t.went (λ k d lt. handling_does (get_or t.happened k d) (t.handled k d lt))
+
+pub breaking_gives_none : (times : List ℕ) (old new : SiteValue) (late kept : List Late) → HasBrokenOff times old late new kept → given new.story ≡ given old.story
+breaking_gives_none times old new late kept t = broken_off t.broken ∙ collecting_gives_none times old t.between late kept t.before
+  where
+    broken_off : IsBroken t.shard times t.between new → given new.story ≡ given t.between.story
+    broken_off (time, at, inl (same, bad)) = ap (λ (s : SiteValue). given s.story) same
+    broken_off (time, at, inr broken) = broken_gives t.between new _ (Collect time) broken
+
+-- ## Where it is refused
+
+pub on_err : {A B : Type 0} (r : Result A B) (P : Type 0) → P → OnErr r P
+on_err (Ok x) P p = tt
+on_err (Err e) P p = p
+
+module _ {W : Type 0} (crosses : W → Crossing → W → Type 0) where
+  pub leaves_none : (w : W) → LeavesNone crosses w w
+  leaves_none w = ([], All-nil IsComing, refl)
+
+  pub leaves_one : (u v : W) (c : Crossing) → IsComing c → crosses u c v → LeavesNone crosses u v
+  leaves_one u v c may step = (c ∷ [], All-cons IsComing c [] may (All-nil IsComing), (v, step, refl))
+
+  pub leaves_then : (u v w : W) → LeavesNone crosses u v → LeavesNone crosses v w → LeavesNone crosses u w
+  leaves_then u v w (xs, f, f_crosses) (ys, g, g_crosses) = (xs ++ ys, All-append IsComing xs ys f g, crosses_then crosses u v w xs ys f_crosses g_crosses)
+
+  -- nothing was given
+  pub gives_none : (p : PortValue) (u v : W) → LeavesNone crosses u v → GivesSome crosses p u p v
+  gives_none p u v silent =
+      record { between = p; ways_between = u; gave = passed_none IsGoing crosses [] p u; untaken = []; rest = sym (append-nil (given p.site.story)); silent = silent; undone = refl }
+
+  -- one was, and wasn't taken
+  pub gives_one : (p q : PortValue) (u v : W) (e : Envelope) → q.site.story ≡ p.site.story ++ Given e ∷ [] → crosses u Nothing v → GivesSome crosses p u q v
+  gives_one p q u v e is step =
+      record {
+        between = p;
+        ways_between = u;
+        gave = passed_none IsGoing crosses [] p u;
+        untaken = e ∷ [];
+        rest = ap given is ∙ filter_map-append given_by p.site.story (Given e ∷ []);
+        silent = leaves_one u v Nothing tt step;
+        undone = ap steps is ∙ giving_is_no_step p.site.story e;
+      }
+
+  -- some were before
+  pub gives_then : (p q r : PortValue) (u v w : W) → HasPassed IsGoing crosses [] p u q v → steps q.site.story ≡ steps p.site.story → GivesSome crosses q v r w → GivesSome crosses p u r w
+  gives_then p q r u v w f same g =
+      record {
+        between = g.between;
+        ways_between = g.ways_between;
+        gave = passed_then IsGoing crosses [] p q g.between u v g.ways_between f g.gave;
+        untaken = g.untaken;
+        rest = g.rest;
+        silent = g.silent;
+        undone = g.undone ∙ same;
+      }
+
 -- what is refused by a sound site, and not for memory, may not come from there
 pub may_not_come : (sound may : Bool) (fault : Fault) → (fault ≡ Memory) ⊎ ((fault ≡ StrangerEnd) × ((sound ≡ false) ⊎ (may ≡ false))) → (fault ≡ Memory → ⊥) → sound ≡ true → may ≡ false
 may_not_come sound may fault (inl memory) other good = absurd (other memory)
@@ -258,15 +340,8 @@ may_not_come sound may fault (inr (stranger, inr not)) other good = not
 
 -- ## Marks
 
--- new ones were made of the clocks that the shards had on the way
-pub marked_anew : {W : Type 0} (steps : W → Crossing → W → Type 0) (xs ys : List ℕ) (time : ℕ) (a b c : PortValue) (u v w : W) (old new : Marks)
-    → HasPassed steps xs a u b v → HasPassed steps ys b v c w → is_due old time ≡ true → new.taken ≡ time → new.clocks.items ≡ clocks_of b.site → AreMarked time a.site c.site old new
-marked_anew steps xs ys time a b c u v w old new f g due taken clocks = inr (due, taken, (b.site, f.happened, g.happened, f.passed.went, g.passed.went, clocks))
-
--- the marks are those that the collection gave, if it gave any
-pub marked_by : {W : Type 0} (steps : W → Crossing → W → Type 0) (xs ys : List ℕ) (time : ℕ) (a b c : PortValue) (u v w : W) (old new : Marks) (fresh : Option Marks)
-    → HasPassed steps xs a u b v → HasPassed steps ys b v c w → new ≡ unwrap_or fresh old
-    → IfSome fresh (λ m. (is_due old time ≡ true) × (m.taken ≡ time) × (m.clocks.items ≡ clocks_of b.site)) → AreMarked time a.site c.site old new
-marked_by steps xs ys time a b c u v w old new None f g is told = inl is
-marked_by steps xs ys time a b c u v w old new (Some m) f g is told =
-    subst (λ z. AreMarked time a.site c.site old z) (sym is) (marked_anew steps xs ys time a b c u v w old m f g told.0 told.1 told.2)
+-- The marks are those that the collection gave, if it gave any: they were made of the clocks that the shards had on the way.
+pub marked_by : (time : ℕ) (a b c : SiteValue) (first rest : List Happening) (old new : Marks) (fresh : Option Marks) → GoesOnWith a first b → GoesOnWith b rest c → new ≡ unwrap_or fresh old
+    → IfSome fresh (λ m. (is_due old time ≡ true) × (m.taken ≡ time) × (m.clocks.items ≡ clocks_of b)) → AreMarked time a c old new
+marked_by time a b c first rest old new None f g is told = inl is
+marked_by time a b c first rest old new (Some m) f g is told = subst (λ z. AreMarked time a c old z) (sym is) (inr (told.0, told.1, (b, first, rest, f, g, told.2)))

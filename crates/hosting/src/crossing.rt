@@ -1,9 +1,9 @@
 //! What goes to other sites, and what comes from them.
-ghost use Rattle.std.specs.Prelude.{◌≡◌, ◌⊎◌, ◌+◌, [], true, false, length, IfOk, OnOk};
+ghost use Rattle.std.specs.Prelude.{◌≡◌, ◌⊎◌, ◌+◌, [], true, false, length, IfOk, OnOk, OnErr};
 ghost use Rattle.site.specs.Story.{site_of as site_of_node, given};
 ghost use Rattle.site.specs.Steps.{steps};
 ghost use Rattle.site_port.specs.Port.{port_of, kept_of};
-ghost use Rattle.hosting.specs.Rounds.{AreGiven, HasPassed};
+ghost use Rattle.hosting.specs.Rounds.{AreGiven, HasPassed, IsComing, IsGoing, LeavesNone, GivesSome};
 
 use actors::Machine;
 use disk::Disk;
@@ -31,11 +31,12 @@ fn send_one<M: Machine, K: Disk, W: Ways>(
     port: &mut SiteSessions<M, K>,
     ways: &mut W,
 ) -> Result<bool, Fault>
-    ensures sent { OnOk result (HasPassed W.steps [] (port_of port.old) ways.old (port_of port.new) ways.new) }
+    ensures sent { OnOk result (HasPassed IsGoing W.steps [] (port_of port.old) ways.old (port_of port.new) ways.new) }
     ensures more { IfOk result (λ more. more ≡ true → length (given port.new.site.site.story) ≡ length (given port.old.site.site.story) + 1) }
     ensures none { IfOk result (λ more. more ≡ false → AreGiven (port_of port.new)) }
-    ensures undone { OnOk result (steps port.new.site.site.story ≡ steps port.old.site.site.story) }
-    ensures kept { OnOk result (kept_of port.new ≡ kept_of port.old) }
+    ensures broken { OnErr result (GivesSome W.steps (port_of port.old) ways.old (port_of port.new) ways.new) }
+    ensures undone { steps port.new.site.site.story ≡ steps port.old.site.site.story }
+    ensures kept { kept_of port.new ≡ kept_of port.old }
 {
     let Some(envelope) = port.give()? else {
         return Ok(false);
@@ -52,10 +53,11 @@ pub fn send_all<M: Machine, K: Disk, W: Ways>(
     ways: &mut W,
     most: u64,
 ) -> Result<(), Fault>
-    ensures sent { OnOk result (HasPassed W.steps [] (port_of port.old) ways.old (port_of port.new) ways.new) }
+    ensures sent { OnOk result (HasPassed IsGoing W.steps [] (port_of port.old) ways.old (port_of port.new) ways.new) }
     ensures rests { OnOk result (AreGiven (port_of port.new) ⊎ (length (given port.new.site.site.story) ≡ length (given port.old.site.site.story) + most)) }
-    ensures undone { OnOk result (steps port.new.site.site.story ≡ steps port.old.site.site.story) }
-    ensures kept { OnOk result (kept_of port.new ≡ kept_of port.old) }
+    ensures broken { OnErr result (GivesSome W.steps (port_of port.old) ways.old (port_of port.new) ways.new) }
+    ensures undone { steps port.new.site.site.story ≡ steps port.old.site.site.story }
+    ensures kept { kept_of port.new ≡ kept_of port.old }
 {
     for _sent in 0..most {
         if !send_one(port, ways)? {
@@ -70,9 +72,10 @@ fn hear_one<M: Machine, K: Disk, W: Ways>(
     port: &mut SiteSessions<M, K>,
     ways: &mut W,
 ) -> Result<bool, Fault>
-    ensures heard { OnOk result (HasPassed W.steps [] (port_of port.old) ways.old (port_of port.new) ways.new) }
-    ensures ungiven { OnOk result (given port.new.site.site.story ≡ given port.old.site.site.story) }
-    ensures kept { OnOk result (kept_of port.new ≡ kept_of port.old) }
+    ensures heard { OnOk result (HasPassed IsComing W.steps [] (port_of port.old) ways.old (port_of port.new) ways.new) }
+    ensures silent { LeavesNone W.steps ways.old ways.new }
+    ensures ungiven { given port.new.site.site.story ≡ given port.old.site.site.story }
+    ensures kept { kept_of port.new ≡ kept_of port.old }
 {
     let Some((from, envelope)) = ways.next()? else {
         return Ok(false);
@@ -95,9 +98,10 @@ pub(crate) fn hear_all<M: Machine, K: Disk, W: Ways>(
     port: &mut SiteSessions<M, K>,
     ways: &mut W,
 ) -> Result<(), Fault>
-    ensures heard { OnOk result (HasPassed W.steps [] (port_of port.old) ways.old (port_of port.new) ways.new) }
-    ensures ungiven { OnOk result (given port.new.site.site.story ≡ given port.old.site.site.story) }
-    ensures kept { OnOk result (kept_of port.new ≡ kept_of port.old) }
+    ensures heard { OnOk result (HasPassed IsComing W.steps [] (port_of port.old) ways.old (port_of port.new) ways.new) }
+    ensures silent { LeavesNone W.steps ways.old ways.new }
+    ensures ungiven { given port.new.site.site.story ≡ given port.old.site.site.story }
+    ensures kept { kept_of port.new ≡ kept_of port.old }
 {
     for _heard in 0..MOST {
         if !hear_one(port, ways)? {

@@ -1,5 +1,6 @@
 //! Collections of a site's shards, each up to what their clocks were at the last one.
 ghost use Rattle.std.specs.Prelude.{◌≡◌, [], true, IfOk, OnOk, IfSome};
+ghost use Rattle.site.specs.Story.{given};
 ghost use Rattle.site_port.specs.Collecting.{clocks_of, HasCollected};
 ghost use Rattle.site_port.specs.Port.{kept_of};
 ghost use Rattle.hosting.specs.Rounds.{is_due, due};
@@ -49,6 +50,7 @@ pub(crate) fn collect_due<K: Disk>(
     marks: &Marks,
     time: u64,
 ) -> Result<Option<Marks>, Fault>
+    ensures ungiven { given port.new.site.site.story ≡ given port.old.site.site.story }
     ensures collected { OnOk result (HasCollected (due marks.now time) port.old.site.site port.old.late port.new.site.site port.new.late) }
     ensures stays { (port.new.waiting ≡ port.old.waiting) × (port.new.behind ≡ port.old.behind) }
     ensures kept { kept_of port.new ≡ kept_of port.old }

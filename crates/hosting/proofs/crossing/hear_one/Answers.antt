@@ -3,13 +3,15 @@ use Rattle.std.proofs.Common.{rules}
 use Rattle.logical_time.specs.declared.fault.Fault.TheVariants.{Memory}
 use Rattle.site.specs.Story.{given, may_come}
 use Rattle.site_port.specs.Port.{PortValue, port_of}
-use Rattle.ways.specs.Crossings.{came_by}
-use Rattle.hosting.proofs.Passing.{passed_exchange, passed_receipt, passed_refusal, may_not_come, hearing_gives_none}
+use Rattle.ways.specs.Crossings.{Came, Refused, Nothing, came_by}
+use Rattle.hosting.specs.Rounds.{IsComing}
+use Rattle.hosting.proofs.Passing.{passed_exchange, passed_receipt, passed_refusal, may_not_come, hearing_gives_none, leaves_one, leaves_then}
 use Rattle.hosting.proofs.crossing.hear_one.Goals as goal
 
 pub returns-in_default : goal.returns-in_default
 returns-in_default g c = record {
-  heard = passed_exchange g.W.Ways.steps [] (port_of c.args.port.now) c.args.ways.now c.next.new.self (subst (λ z. g.W.Ways.steps c.args.ways.now (came_by z) c.next.new.self) c.in_default.is c.in_ok-from.ensures.came);
+  heard = passed_exchange IsComing g.W.Ways.steps [] (port_of c.args.port.now) c.args.ways.now c.next.new.self tt (subst (λ z. g.W.Ways.steps c.args.ways.now (came_by z) c.next.new.self) c.in_default.is c.in_ok-from.ensures.came);
+  silent = leaves_one g.W.Ways.steps c.args.ways.now c.next.new.self Nothing tt (subst (λ z. g.W.Ways.steps c.args.ways.now (came_by z) c.next.new.self) c.in_default.is c.in_ok-from.ensures.came);
   ungiven = refl;
   kept = refl;
 }
@@ -18,6 +20,7 @@ pub returns-in-Ok : goal.returns-in-Ok
 returns-in-Ok g c = record {
   heard = passed_receipt g.W.Ways.steps (port_of c.args.port.now) (port_of c.hear.new.self) c.args.ways.now c.next.new.self c.in-Some.from c.in-Some.envelope c.in-Ok.ensures.heard c.in-Ok.ensures.allowed.1
       (subst (λ z. g.W.Ways.steps c.args.ways.now (came_by z) c.next.new.self) c.in-Some.is c.in_ok-from.ensures.came);
+  silent = leaves_one g.W.Ways.steps c.args.ways.now c.next.new.self (Came c.in-Some.from c.in-Some.envelope) tt (subst (λ z. g.W.Ways.steps c.args.ways.now (came_by z) c.next.new.self) c.in-Some.is c.in_ok-from.ensures.came);
   ungiven = ap (λ (p : PortValue). given p.site.story) c.in-Ok.ensures.heard ∙ hearing_gives_none c.args.port.now.site.site.story c.in-Some.from c.in-Some.envelope;
   kept = c.hear.ensures.kept;
 }
@@ -33,6 +36,16 @@ returns-else-not-is_sound g c =
     record {
       heard = passed_refusal g.W.Ways.steps (port_of c.args.port.now) (port_of c.hear.new.self) c.args.ways.now c.next.new.self c.refuse.new.self c.in-Some.from c.in-Some.envelope same stranger
           (subst (λ z. g.W.Ways.steps c.args.ways.now (came_by z) c.next.new.self) c.in-Some.is c.in_ok-from.ensures.came) c.refuse.ensures;
+      silent = leaves_then g.W.Ways.steps c.args.ways.now c.next.new.self c.refuse.new.self
+          (leaves_one g.W.Ways.steps c.args.ways.now c.next.new.self (Came c.in-Some.from c.in-Some.envelope) tt (subst (λ z. g.W.Ways.steps c.args.ways.now (came_by z) c.next.new.self) c.in-Some.is c.in_ok-from.ensures.came))
+          (leaves_one g.W.Ways.steps c.next.new.self c.refuse.new.self (Refused c.in-Some.from) tt c.refuse.ensures);
       ungiven = ap (λ (p : PortValue). given p.site.story) same;
       kept = c.hear.ensures.kept;
     }
+
+pub returns-in_err-from-clause-silent : goal.returns-in_err-from-clause-silent
+returns-in_err-from-clause-silent g c = leaves_one g.W.Ways.steps c.args.ways.now c.next.new.self Nothing tt c.in_err-from.ensures.none
+
+pub returns-then-eq-clause-silent : goal.returns-then-eq-clause-silent
+returns-then-eq-clause-silent g c =
+    leaves_one g.W.Ways.steps c.args.ways.now c.next.new.self (Came c.in-Some.from c.in-Some.envelope) tt (subst (λ z. g.W.Ways.steps c.args.ways.now (came_by z) c.next.new.self) c.in-Some.is c.in_ok-from.ensures.came)

@@ -1,58 +1,93 @@
-use Rattle.std.proofs.Common.{[], ◌∙◌, ap, sym, subst}
-use Rattle.site_port.specs.Port.{PortValue, port_of}
-use Rattle.hosting.specs.Rounds.{due, HasPassed}
-use Rattle.hosting.proofs.Passing.{passed_exchange, passed_anyhow, passed_turns, passed_collections, passed_then, marked_by, turns_give_none, collecting_gives_none}
+use Rattle.std.proofs.Common.{[], ◌∙◌, ap, sym, subst, refl, inl}
+use Rattle.site_port.specs.Port.{PortValue, Settles, port_of}
+use Rattle.site.specs.Story.{given}
+use Rattle.site_port.specs.Ends.{GoesOnWith}
+use Rattle.site_port.proofs.Turning.{goes_then}
+use Rattle.ways.specs.Crossings.{Nothing}
+use Rattle.hosting.specs.Rounds.{due, IsGoing}
+use Rattle.hosting.proofs.Passing.{passed_exchange, passed_then, marked_by, leaves_one, leaves_then, gives_none, gives_then, turns_give_none, stopped_gives_none, on_err}
+use Rattle.hosting.proofs.Breaking.{passed_to_turned, has_settled, breaks_off}
 use Rattle.hosting.proofs.node.pass.Goals as goal
 
+pub returns-in_err-exchange-clause-broken : goal.returns-in_err-exchange-clause-broken
+returns-in_err-exchange-clause-broken g c =
+    on_err _ _ (
+    inl (leaves_one g.W.Ways.steps c.args.ways.now c.exchange.new.self Nothing tt c.exchange.ensures, refl)
+    )
+
+pub returns-in_err-hear_all-clause-broken : goal.returns-in_err-hear_all-clause-broken
+returns-in_err-hear_all-clause-broken g c =
+    on_err _ _ (
+    inl (leaves_then g.W.Ways.steps c.args.ways.now c.exchange.new.self c.hear_all.new.ways (leaves_one g.W.Ways.steps c.args.ways.now c.exchange.new.self Nothing tt c.exchange.ensures) c.hear_all.ensures.silent, c.hear_all.ensures.ungiven)
+    )
+
+pub returns-in_err-turn-clause-broken : goal.returns-in_err-turn-clause-broken
+returns-in_err-turn-clause-broken g c =
+    on_err _ _ (
+    inl (
+      leaves_then g.W.Ways.steps c.args.ways.now c.exchange.new.self c.hear_all.new.ways (leaves_one g.W.Ways.steps c.args.ways.now c.exchange.new.self Nothing tt c.exchange.ensures) c.hear_all.ensures.silent,
+      stopped_gives_none _ c.hear_all.new.port.site.site c.turn.new.self.site.site _ _ _ c.in_err-turn.ensures.stopped ∙ c.hear_all.ensures.ungiven,
+    )
+    )
+
+pub returns-in_err-fresh-clause-broken : goal.returns-in_err-fresh-clause-broken
+returns-in_err-fresh-clause-broken g c =
+    on_err _ _ (
+    inl (
+      leaves_then g.W.Ways.steps c.args.ways.now c.exchange.new.self c.hear_all.new.ways (leaves_one g.W.Ways.steps c.args.ways.now c.exchange.new.self Nothing tt c.exchange.ensures) c.hear_all.ensures.silent,
+      c.collect_due.ensures.ungiven ∙ (turns_give_none 1000000 c.hear_all.new.port.site.site c.turn.new.self.site.site _ _ c.in_ok-turn.ensures.took ∙ c.hear_all.ensures.ungiven),
+    )
+    )
+
+pub returns-in_err-settle-clause-broken : goal.returns-in_err-settle-clause-broken
+returns-in_err-settle-clause-broken g c =
+    on_err _ _ (
+    inl (
+      leaves_then g.W.Ways.steps c.args.ways.now c.exchange.new.self c.hear_all.new.ways (leaves_one g.W.Ways.steps c.args.ways.now c.exchange.new.self Nothing tt c.exchange.ensures) c.hear_all.ensures.silent,
+      ap (λ (p : PortValue). given p.site.story) c.settle.ensures.asks_nothing
+          ∙ (c.collect_due.ensures.ungiven ∙ (turns_give_none 1000000 c.hear_all.new.port.site.site c.turn.new.self.site.site _ _ c.in_ok-turn.ensures.took ∙ c.hear_all.ensures.ungiven)),
+    )
+    )
+
+pub returns-in_err-send_all-clause-broken : goal.returns-in_err-send_all-clause-broken
+returns-in_err-send_all-clause-broken g c =
+    on_err _ _ (
+    breaks_off _ g.W.Ways.steps (due c.args.marks.now c.args.time) c.args.port.now c.hear_all.new.port c.turn.new.self c.collect_due.new.port c.args.ways.now c.exchange.new.self c.hear_all.new.ways
+    c.exchange.ensures c.in_ok-hear_all.ensures.heard c.hear_all.ensures.ungiven c.hear_all.ensures.kept c.in_ok-turn.ensures.took c.turn.ensures.stays c.turn.ensures.kept
+    c.settle.new.self c.in_ok-fresh.ensures.collected c.collect_due.ensures.stays c.collect_due.ensures.kept c.in_ok-settle.ensures.settled c.settle.ensures.asks_nothing
+    c.confirm.new.self c.send_all.new.ways c.send_all.new.port c.confirm.ensures c.in_err-send_all.ensures.broken c.send_all.ensures.kept
+    )
+
+pub returns-in_err-flush-clause-broken : goal.returns-in_err-flush-clause-broken
+returns-in_err-flush-clause-broken g c =
+    on_err _ _ (
+    let gone = gives_then g.W.Ways.steps (port_of c.settle.new.self) (port_of c.send_all.new.port) (port_of c.send_all.new.port) c.confirm.new.self c.send_all.new.ways c.flush.new.self c.in_ok-send_all.ensures.sent c.send_all.ensures.undone
+    (gives_none g.W.Ways.steps (port_of c.send_all.new.port) c.send_all.new.ways c.flush.new.self (leaves_one g.W.Ways.steps c.send_all.new.ways c.flush.new.self Nothing tt c.flush.ensures)) in
+    breaks_off _ g.W.Ways.steps (due c.args.marks.now c.args.time) c.args.port.now c.hear_all.new.port c.turn.new.self c.collect_due.new.port c.args.ways.now c.exchange.new.self c.hear_all.new.ways
+    c.exchange.ensures c.in_ok-hear_all.ensures.heard c.hear_all.ensures.ungiven c.hear_all.ensures.kept c.in_ok-turn.ensures.took c.turn.ensures.stays c.turn.ensures.kept
+    c.settle.new.self c.in_ok-fresh.ensures.collected c.collect_due.ensures.stays c.collect_due.ensures.kept c.in_ok-settle.ensures.settled c.settle.ensures.asks_nothing
+    c.confirm.new.self c.flush.new.self c.send_all.new.port c.confirm.ensures gone c.send_all.ensures.kept
+    )
+
 pub returns-clause-passed : goal.returns-clause-passed
-returns-clause-passed g c =
-    let steps = g.W.Ways.steps in
-    let times = due c.args.marks.now c.args.time in
-    let start = port_of c.args.port.now in
-    let heard = port_of c.hear_all.new.port in
-    let turned = port_of c.turn.new.self in
-    let collected = port_of c.collect_due.new.port in
-    let settled = port_of c.settle.new.self in
-    let given = port_of c.send_all.new.port in
-    let one = passed_exchange steps times start c.args.ways.now c.exchange.new.self c.in_ok-exchange.ensures in
-    let two = passed_then steps times start start heard c.args.ways.now c.exchange.new.self c.hear_all.new.ways one (passed_anyhow steps times start heard c.exchange.new.self c.hear_all.new.ways c.in_ok-hear_all.ensures.heard) in
-    let three = passed_then steps times start heard turned c.args.ways.now c.hear_all.new.ways c.hear_all.new.ways two
-    (passed_turns steps times heard turned c.hear_all.new.ways c.in_ok-turn.ensures.stays.0 c.in_ok-turn.ensures.stays.1 1000000 c.in_ok-turn.ensures.took) in
-    let four = passed_collections steps times turned collected c.hear_all.new.ways c.in_ok-fresh.ensures.stays.0 c.in_ok-fresh.ensures.stays.1 c.in_ok-fresh.ensures.collected in
-    let done = passed_then steps times start turned collected c.args.ways.now c.hear_all.new.ways c.hear_all.new.ways three four in
-    let gone = passed_then steps [] settled given given c.hear_all.new.ways c.send_all.new.ways c.flush.new.self c.in_ok-send_all.ensures.sent (passed_exchange steps [] given c.send_all.new.ways c.flush.new.self c.in_ok-flush.ensures) in
-    record {
-      done = c.collect_due.new.port;
-      ways_done = c.hear_all.new.ways;
-      passed = done;
-      ungiven =
-          collecting_gives_none times turned.site collected.site turned.late collected.late c.in_ok-fresh.ensures.collected
-          ∙ (turns_give_none 1000000 heard.site turned.site heard.late turned.late c.in_ok-turn.ensures.took ∙ c.in_ok-hear_all.ensures.ungiven);
-      unkept = c.in_ok-fresh.ensures.kept ∙ (c.in_ok-turn.ensures.kept ∙ c.in_ok-hear_all.ensures.kept);
-      settled = c.settle.new.self;
-      is_settled = c.in_ok-settle.ensures.settled;
-      stays = c.in_ok-settle.ensures.asks_nothing;
-      gave = gone;
-      undone = c.in_ok-send_all.ensures.undone;
-      kept = c.in_ok-send_all.ensures.kept;
-    }
+returns-clause-passed g c = record {
+  settled = c.settle.new.self;
+  ways_done = c.hear_all.new.ways;
+  first = has_settled _ g.W.Ways.steps (due c.args.marks.now c.args.time) c.args.port.now c.hear_all.new.port c.turn.new.self c.collect_due.new.port c.args.ways.now c.exchange.new.self c.hear_all.new.ways
+      c.exchange.ensures c.in_ok-hear_all.ensures.heard c.hear_all.ensures.ungiven c.hear_all.ensures.kept c.in_ok-turn.ensures.took c.turn.ensures.stays c.turn.ensures.kept
+      c.settle.new.self c.in_ok-fresh.ensures.collected c.collect_due.ensures.stays c.collect_due.ensures.kept c.in_ok-settle.ensures.settled c.settle.ensures.asks_nothing;
+  ways_confirmed = c.confirm.new.self;
+  confirmed = c.confirm.ensures;
+  gave = passed_then IsGoing g.W.Ways.steps [] (port_of c.settle.new.self) (port_of c.send_all.new.port) (port_of c.send_all.new.port) c.confirm.new.self c.send_all.new.ways c.flush.new.self c.in_ok-send_all.ensures.sent
+      (passed_exchange IsGoing g.W.Ways.steps [] (port_of c.send_all.new.port) c.send_all.new.ways c.flush.new.self tt c.flush.ensures);
+  undone = c.send_all.ensures.undone;
+  kept = c.send_all.ensures.kept;
+}
 
 pub returns-clause-marked : goal.returns-clause-marked
 returns-clause-marked g c =
-    let steps = g.W.Ways.steps in
-    let times = due c.args.marks.now c.args.time in
-    let start = port_of c.args.port.now in
-    let heard = port_of c.hear_all.new.port in
-    let turned = port_of c.turn.new.self in
-    let collected = port_of c.collect_due.new.port in
-    let given = port_of c.send_all.new.port in
-    let one = passed_exchange steps times start c.args.ways.now c.exchange.new.self c.in_ok-exchange.ensures in
-    let two = passed_then steps times start start heard c.args.ways.now c.exchange.new.self c.hear_all.new.ways one (passed_anyhow steps times start heard c.exchange.new.self c.hear_all.new.ways c.in_ok-hear_all.ensures.heard) in
-    let three = passed_then steps times start heard turned c.args.ways.now c.hear_all.new.ways c.hear_all.new.ways two
-    (passed_turns steps times heard turned c.hear_all.new.ways c.in_ok-turn.ensures.stays.0 c.in_ok-turn.ensures.stays.1 1000000 c.in_ok-turn.ensures.took) in
-    let four = passed_collections steps times turned collected c.hear_all.new.ways c.in_ok-fresh.ensures.stays.0 c.in_ok-fresh.ensures.stays.1 c.in_ok-fresh.ensures.collected in
-    let sent : HasPassed steps [] collected c.hear_all.new.ways given c.send_all.new.ways =
-    (subst (λ p. HasPassed steps [] p c.hear_all.new.ways given c.send_all.new.ways) c.in_ok-settle.ensures.asks_nothing c.in_ok-send_all.ensures.sent) in
-    let five = passed_then steps times turned collected given c.hear_all.new.ways c.hear_all.new.ways c.send_all.new.ways four (passed_anyhow steps times collected given c.hear_all.new.ways c.send_all.new.ways sent) in
-    let rest = passed_then steps times turned given given c.hear_all.new.ways c.send_all.new.ways c.flush.new.self five (passed_exchange steps times given c.send_all.new.ways c.flush.new.self c.in_ok-flush.ensures) in
-    marked_by steps times times c.args.time start turned given c.args.ways.now c.hear_all.new.ways c.flush.new.self c.args.marks.now c.renew.new.marks _ three rest c.renew.ensures c.in_ok-fresh.ensures.marked
+    let turned = passed_to_turned (Settles g.K.Disk.seen g.K.Disk.may_leave g.K.Disk.failed g.K.Disk.moment g.K.Disk.left_since) g.W.Ways.steps (due c.args.marks.now c.args.time) c.args.port.now c.hear_all.new.port c.turn.new.self c.turn.new.self c.args.ways.now c.exchange.new.self c.hear_all.new.ways
+    c.exchange.ensures c.in_ok-hear_all.ensures.heard c.hear_all.ensures.ungiven c.hear_all.ensures.kept c.in_ok-turn.ensures.took c.turn.ensures.stays c.turn.ensures.kept in
+    let sent = subst (λ (p : PortValue). GoesOnWith p.site c.in_ok-send_all.ensures.sent.happened c.send_all.new.port.site.site) c.settle.ensures.asks_nothing c.in_ok-send_all.ensures.sent.passed.went in
+    let rest = goes_then c.turn.new.self.site.site c.collect_due.new.port.site.site c.send_all.new.port.site.site c.in_ok-fresh.ensures.collected.happened c.in_ok-send_all.ensures.sent.happened c.in_ok-fresh.ensures.collected.went sent in
+    marked_by c.args.time c.args.port.now.site.site c.turn.new.self.site.site c.send_all.new.port.site.site turned.happened _ c.args.marks.now c.renew.new.marks _ turned.passed.went rest c.renew.ensures c.in_ok-fresh.ensures.marked
