@@ -1,5 +1,6 @@
 -- What is told of a file that is a log, and why nothing is.
-use Rattle.std.specs.Prelude.{◌≡◌, ◌+◌, ℕ, Bool, true, false, Some, List, ◌++◌, length, count_by, codes, decimal}
+use Rattle.std.specs.Prelude.{◌≡◌, ◌⊎◌, ◌+◌, ℕ, Bool, true, false, Some, List, ◌++◌, length, count_by, codes, decimal}
+use Rattle.std.specs.List.{flat_map}
 use Rattle.logical_time.specs.declared.fault.Fault.{Fault}
 use Rattle.logical_time.specs.declared.fault.Fault.TheVariants.{ClockSpent, Memory, ReadFailed, Script}
 use Rattle.disk.specs.declared.disk.DiskError.TheVariants as disk
@@ -23,7 +24,9 @@ use Rattle.recorded.specs.Recording.{reads_in}
 use Rattle.logfile.specs.declared.error.LogError.{LogError}
 use Rattle.logfile.specs.declared.error.LogError.TheVariants.{Head, Other, Records, Unspelled}
 use Rattle.logfile.specs.declared.summary.Summary.{Summary}
+use Rattle.logfile.specs.declared.site_summary.SiteSummary.{SiteSummary}
 use Rattle.logfile.specs.Logs.{BeginsWith, behind, IsLogOf, Keeps}
+use Rattle.logfile.specs.Sites.{HasNoHead, IsOfSite, IsOfNoSite, IsSiteSummaryOf, CantLookAtSite, site_line, site_counts_text, other_text, rest_text}
 
 abbrev pub is_request : Entry → Bool
 is_request (Request session op) = true
@@ -56,9 +59,21 @@ counts_text s =
 abbrev pub summary_text : Summary → List ℕ → List ℕ
 summary_text s names = codes "the log of " ++ store_text s.topology names ++ codes "\n" ++ counts_text s
 
--- the text tells what is in the log that a file holds
+-- those that tell what is in the log of a node
+abbrev pub site_text : SiteSummary → List ℕ → List ℕ
+site_text s names = site_line s.dc (store_text s.topology names) ++ (site_counts_text s.counts ++ (flat_map other_text s.counts.others.items ++ rest_text s.records s.torn))
+
+-- the text tells what is in the log of a server
+abbrev pub TellsServer : List ℕ → List ℕ → Type 0
+TellsServer file text = (s : Summary) × IsSummaryOf file s × (names : List ℕ) × (text ≡ summary_text s names)
+
+-- it tells what is in that of this data centre's node
+abbrev pub TellsNode : List ℕ → ℕ → List ℕ → Type 0
+TellsNode file dc text = (s : SiteSummary) × IsSiteSummaryOf file dc s × (names : List ℕ) × (text ≡ site_text s names)
+
+-- the text tells what is in the log that a file holds, a node's where its first record says so
 abbrev pub IsLookFor : List ℕ → List ℕ → Type 0
-IsLookFor file text = (s : Summary) × IsSummaryOf file s × (names : List ℕ) × (text ≡ summary_text s names)
+IsLookFor file text = (IsOfNoSite file × TellsServer file text) ⊎ ((dc : ℕ) × IsOfSite file dc × TellsNode file dc text)
 
 -- ## What happened
 
@@ -95,7 +110,7 @@ CantReopen top file (Other t) = (secret : ℕ) × BeginsWith secret t file × (t
 CantReopen top file (Records e) = (secret : ℕ) × BeginsWith secret top file × CantOpen top secret (behind secret top file) e
 CantReopen top file Unspelled = ⊥
 
--- what is in a file isn't told: it is no log, or its records tell nothing
+-- what is in a server's log isn't told: the file is no log, or its records tell nothing
 abbrev pub CantLook : List ℕ → LogError → Type 0
 CantLook file (Head e) = IsNoHead file e
 CantLook file (Other t) = ⊥
@@ -109,8 +124,12 @@ HasNoHistory file (Other t) = ⊥
 HasNoHistory file (Records e) = (secret : ℕ) × (top : TopologyValue) × BeginsWith secret top file × CantRecall top secret (behind secret top file) e
 HasNoHistory file Unspelled = (r : RecordedValue) × IsHistoryOf file r
 
+-- what is in the log that a file holds isn't told
+abbrev pub IsUnseen : List ℕ → LogError → Type 0
+IsUnseen file e = HasNoHead file e ⊎ ((IsOfNoSite file × CantLook file e) ⊎ ((dc : ℕ) × IsOfSite file dc × CantLookAtSite file e))
+
 abbrev pub CantTell : Bool → List ℕ → LogError → Type 0
-CantTell false = CantLook
+CantTell false = IsUnseen
 CantTell true = HasNoHistory
 
 -- the fault that it is
