@@ -1,0 +1,5 @@
+use Rattle.std.proofs.Common.{rules, append_assoc}
+use Rattle.load.proofs.told.refusal_line.Goals as goal
+
+pub returns : goal.returns
+returns c = simp append_assoc (search rules)
