@@ -1,7 +1,7 @@
 //! Command lines.
 use crate::showing::text_of;
 use crate::steps::Subject;
-use command_line::{Asked, Bounds, Joining, Serving, Told, read_words};
+use command_line::{Asked, Bounds, Joining, Loading, Serving, Told, read_words};
 use logical_time::Fault;
 use program::Output;
 use std::alloc::Global;
@@ -55,13 +55,35 @@ fn add_node(joining: &Joining, seen: &mut String) -> Result<(), Fault> {
         dc,
         secret,
         behind,
+        idle,
         data,
     } = joining;
-    write!(seen, "site {dc} of {name}, secret {secret}, {behind} bytes")?;
+    write!(
+        seen,
+        "site {dc} of {name}, secret {secret}, {behind} bytes, {idle} seconds"
+    )?;
     if let Some(folder) = data {
         write!(seen, ", log {folder}")?;
     }
     Ok(())
+}
+
+fn add_load(loading: &Loading, seen: &mut String) -> Result<(), Fault> {
+    let Loading {
+        port,
+        connections,
+        depth,
+        seconds,
+        reads,
+        keys,
+        value,
+        seed,
+        family,
+    } = loading;
+    let family = text_of(family.as_slice());
+    write!(seen, "port {port}, {connections} by {depth}, {seconds} s")?;
+    write!(seen, ", {reads} % reads of {keys} keys in {family}")?;
+    Ok(write!(seen, ", {value} bytes, seed {seed}")?)
 }
 
 fn add_bounds(bounds: Bounds, seen: &mut String) -> Result<(), Fault> {
@@ -102,6 +124,7 @@ impl Subject for Line {
             }
             Asked::Serve(serving) => add_server(&serving, seen),
             Asked::Node(joining) => add_node(&joining, seen),
+            Asked::Load(loading) => add_load(&loading, seen),
             Asked::Log { name, history } => {
                 let what = if history { "the history of " } else { "" };
                 Ok(write!(seen, "{what}the log {name}")?)

@@ -1,5 +1,5 @@
 //! What a node is asked for.
-use crate::serving::data_of;
+use crate::serving::{data_of, idle_of, seconds};
 use clap::{Arg, ArgAction, ArgMatches, Command, value_parser};
 use std::alloc::{AllocError, Global};
 
@@ -14,6 +14,8 @@ pub struct Joining {
     pub secret: String,
     /// How many bytes may wait for another site before batches are refused.
     pub behind: u64,
+    /// After how many seconds a connection that sent nothing leaves when somebody waits for its place; 0 for never.
+    pub idle: u32,
     /// The folder of its log, if it keeps one.
     pub data: Option<String>,
 }
@@ -43,6 +45,12 @@ pub(crate) fn node_command<'a>(alloc: Global, file: Arg<'a>) -> Result<Command<'
         .help("Refuses batches while more than this waits for another site")
         .value_parser(value_parser!(u64).range(1..1_099_511_627_776))
         .default_value("268435456");
+    let idle = seconds(
+        alloc,
+        "idle",
+        "A connection that sent nothing for so long leaves when somebody waits for a place; 0 for never",
+        "300",
+    );
     let data = Arg::new(alloc, "data")
         .long("data")
         .value_name("FOLDER")
@@ -61,6 +69,7 @@ pub(crate) fn node_command<'a>(alloc: Global, file: Arg<'a>) -> Result<Command<'
         .arg(dc)?
         .arg(secret)?
         .arg(behind)?
+        .arg(idle)?
         .arg(data)
 }
 
@@ -75,6 +84,7 @@ pub(crate) fn joining_of(
         dc: found.get_one::<u16>("dc").unwrap_or(0),
         secret: String::from_str(alloc, found.get_str("secret").unwrap_or(""))?,
         behind: found.get_one::<u64>("behind").unwrap_or(USUAL_BEHIND),
+        idle: idle_of(found),
         data: data_of(alloc, found)?,
     })
 }

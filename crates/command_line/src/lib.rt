@@ -5,12 +5,14 @@
 
 mod exploring;
 mod joining;
+mod loading;
 mod reading;
 mod serving;
 mod told;
 
 pub use exploring::Bounds;
 pub use joining::Joining;
+pub use loading::Loading;
 pub use reading::{Asked, read_words, refuse_words};
 pub use serving::Serving;
 pub use told::Told;

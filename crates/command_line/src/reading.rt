@@ -4,6 +4,7 @@ ghost use Rattle.logical_time.specs.declared.fault.Fault.TheVariants as fault;
 
 use crate::exploring::{Bounds, bounds_of, explore_command};
 use crate::joining::{Joining, joining_of, node_command};
+use crate::loading::{Loading, load_command, loading_of};
 use crate::serving::{Serving, serve_command, serving_of};
 use crate::told::Told;
 use clap::error::ErrorKind;
@@ -74,6 +75,8 @@ pub enum Asked {
     Serve(Serving),
     /// A node.
     Node(Joining),
+    /// A load.
+    Load(Loading),
     /// What the log in the file of this name holds.
     Log {
         /// The name.
@@ -176,13 +179,13 @@ fn log_command<'a>(alloc: Global) -> Result<Command<'a>, AllocError> {
     let folder = Arg::new(alloc, "FOLDER")
         .required(true)
         .action(ArgAction::Set)
-        .help("The folder of a log, that of --data of a server");
+        .help("The folder of a log, that of --data");
     let history = Arg::new(alloc, "history")
         .long("history")
         .action(ArgAction::SetTrue)
-        .help("Prints the recorded history of what it tells, for eiger audit");
+        .help("Prints the recorded history of what that of a server tells, for eiger audit");
     Command::new(alloc, "log")
-        .about("Checks the log of a server, and tells what is in it; changes nothing")
+        .about("Checks the log of a server or a node, and tells what is in it; changes nothing")
         .after_help("Examples: eiger log store\n          eiger log store --history")
         .arg(folder)?
         .arg(history)
@@ -206,6 +209,7 @@ fn command<'a>(alloc: Global) -> Result<Command<'a>, AllocError> {
         .subcommand(explore_command(alloc, file(alloc, SCRIPT))?)?
         .subcommand(serve_command(alloc)?)?
         .subcommand(node_command(alloc, file(alloc, SITES))?)?
+        .subcommand(load_command(alloc)?)?
         .subcommand(log_command(alloc)?)
 }
 
@@ -268,6 +272,10 @@ fn accepted(alloc: Global, matches: &ArgMatches<'_>) -> Result<Asked, AllocError
             let name = name_of(alloc, found)?;
             Ok(Asked::Node(joining_of(alloc, name, found)?))
         }
+        Some(("load", found)) => match loading_of(alloc, found)? {
+            Ok(loading) => Ok(Asked::Load(loading)),
+            Err(told) => Ok(Asked::Told(told)),
+        },
         Some((_, found)) => match serving_of(alloc, found)? {
             Ok(serving) => Ok(Asked::Serve(serving)),
             Err(told) => Ok(Asked::Told(told)),

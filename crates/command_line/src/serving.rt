@@ -27,8 +27,8 @@ pub struct Serving {
 /// How many sessions there may be where they serve one after the other.
 const FEW_SESSIONS: u16 = 16;
 
-// An option with a value.
-fn option<'a>(alloc: Global, name: &'a str, shown: &'a str, help: &'a str) -> Arg<'a> {
+/// An option with a value.
+pub(crate) fn option<'a>(alloc: Global, name: &'a str, shown: &'a str, help: &'a str) -> Arg<'a> {
     Arg::new(alloc, name)
         .long(name)
         .value_name(shown)
@@ -57,8 +57,13 @@ fn data<'a>(alloc: Global) -> Result<Arg<'a>, AllocError> {
     .requires_arg("concurrent")
 }
 
-// The option of a server that says after how many seconds something comes.
-fn seconds<'a>(alloc: Global, name: &'a str, help: &'a str, otherwise: &'a str) -> Arg<'a> {
+/// The option that says after how many seconds something comes.
+pub(crate) fn seconds<'a>(
+    alloc: Global,
+    name: &'a str,
+    help: &'a str,
+    otherwise: &'a str,
+) -> Arg<'a> {
     option(alloc, name, "SECONDS", help)
         .value_parser(value_parser!(u32).range(0..86_401))
         .default_value(otherwise)
@@ -163,6 +168,11 @@ pub(crate) fn data_of(alloc: Global, found: &ArgMatches<'_>) -> Result<Option<St
     }
 }
 
+/// After how many seconds a connection that sent nothing may leave.
+pub(crate) fn idle_of(found: &ArgMatches<'_>) -> u32 {
+    found.get_one::<u32>("idle").unwrap_or(300)
+}
+
 // How many sessions are asked for.
 fn sessions_of(found: &ArgMatches<'_>) -> u16 {
     found.get_one::<u16>("sessions").unwrap_or(1)
@@ -186,7 +196,7 @@ pub(crate) fn serving_of(
             port: found.get_one::<u16>("port").unwrap_or(0),
             topology,
             concurrent,
-            idle: found.get_one::<u32>("idle").unwrap_or(300),
+            idle: idle_of(found),
             report: found.get_one::<u32>("report").unwrap_or(0),
             data: data_of(alloc, found)?,
         }));

@@ -5,7 +5,7 @@ use Rattle.program.specs.declared.input.Input.{Input}
 use Rattle.program.specs.declared.output.Output.{Output}
 use Rattle.program.specs.Telling.{Tells}
 use Rattle.command_line.specs.declared.reading.Asked.{Asked}
-use Rattle.command_line.specs.declared.reading.Asked.TheVariants.{Sim, History, Trace, Run, BySites, Audit, Explore, Serve, Node, Log, Told}
+use Rattle.command_line.specs.declared.reading.Asked.TheVariants.{Sim, History, Trace, Run, BySites, Audit, Explore, Serve, Node, Load, Log, Told}
 use Rattle.command_line.specs.Told.{Answers}
 use Rattle.workload.specs.Audited.{IsToldFor}
 use Rattle.workload.specs.Performing.{IsRefused, Prints, Ends, TellsUnread}
@@ -84,6 +84,7 @@ module _ {R W E : Type 0} (remaining : R → Option (List ℕ)) (contents : W �
   IsAnswer brings (Ok (Explore name bounds)) status old new told told' = Ran (IsExplorationFor bounds.lose) IsUnexplored (string_bytes name) status old new told told'
   IsAnswer brings (Ok (Serve s)) status old new told told' = IsServed written s.concurrent status told told'
   IsAnswer brings (Ok (Node joining)) status old new told told' = HasStopped written status told told'
+  IsAnswer brings (Ok (Load loading)) status old new told told' = IsDone status told told' ⊎ HasFailed written status told told'
   IsAnswer brings (Ok (Log name history)) status old new told told' = Ran (IsLogTextFor history) (IsUntold history) (string_bytes name) status old new told told'
   IsAnswer brings (Ok (Told t)) status old new told told' = Answers contents written t status old new told told'
   IsAnswer brings (Err e) status old new told told' = (status ≡ 1) × (new ≡ old) × Tells written e None told told'

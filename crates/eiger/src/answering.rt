@@ -11,6 +11,7 @@ ghost use Rattle.logfile.specs.Told.{IsLogTextFor, IsUntold};
 ghost use Rattle.eiger.specs.Answering.{IsOpened, Ran, Judged, IsAnswer};
 
 use crate::joining::join;
+use crate::loading::perform_load;
 use crate::serving::serve;
 use by_sites::perform_by_sites;
 use command_line::{Asked, Bounds};
@@ -205,6 +206,7 @@ pub(crate) fn answer<T: Threads + Wait + Sync, W: Buffered, E: Buffered>(
         Ok(Asked::Explore { name, bounds }) => explore(rt, threads, name, bounds, output, errors),
         Ok(Asked::Serve(serving)) => serve(rt, threads, &serving, output, errors),
         Ok(Asked::Node(joining)) => join(rt, threads, &joining, output, errors),
+        Ok(Asked::Load(loading)) => perform_load(rt, &loading, output, errors),
         Ok(Asked::Log { name, history }) => log(rt, name, history, output, errors),
         Ok(Asked::Told(told)) => told.answer(output, errors),
         Err(fault) => tell(errors, fault, None),

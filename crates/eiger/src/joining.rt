@@ -4,6 +4,7 @@ ghost use Rattle.eiger.specs.Answering.{HasStopped};
 
 use crate::answering::opened;
 use crate::keeping::{millis_since, tell_of};
+use crate::refusing::{tell_homeless, tell_own_fault, tell_why, told_deaf, told_wrong};
 use crate::serving::tell_port;
 use crate::together::tell_all;
 use crate::watching::Watch;
@@ -24,6 +25,7 @@ use site::Site;
 use site_folder::{FileDisk, open_site};
 use site_port::SiteSessions;
 use sites_file::{SitesFile, read_sites};
+use std::alloc::Global;
 use std::net::SocketAddr;
 use std::random::RandomSource;
 use std::str;
@@ -38,23 +40,55 @@ const LONGEST: u64 = 500;
 /// How soon other sites are looked for again, in milliseconds.
 const LOOK: u64 = 200;
 
-// The whole file of this name. Refused with `ReadFailed`, and with `Memory`.
-fn bytes_of(rt: &HostRuntime, name: &str) -> Result<Vec<u8>, Fault> {
-    opened(rt, String::from_str(rt.alloc(), name)?).read_all(rt.alloc())
+// The whole file of this name. Refused with `ReadFailed`, of which it is told why, and with `Memory`.
+fn bytes_of<E: Buffered>(
+    rt: &HostRuntime,
+    name: &str,
+    errors: &mut Output<E>,
+) -> Result<Vec<u8>, Fault> {
+    let alloc = rt.alloc();
+    let mut input = opened(rt, String::from_str(alloc, name)?);
+    let bytes = input.read_all(alloc);
+    if let Some(error) = &input.failure {
+        tell_why(alloc, name, format!(in alloc; "{error}"), errors);
+    }
+    bytes
 }
 
-// Which process this is. Refused with `ReadFailed` where the system gives no chance.
-fn incarnation(rt: &HostRuntime) -> Result<[u8; 16], Fault> {
+// Which process this is. Refused with `ReadFailed` where the system gives no chance, and that is told.
+fn incarnation<E: Buffered>(rt: &HostRuntime, errors: &mut Output<E>) -> Result<[u8; 16], Fault> {
+    let alloc = rt.alloc();
     let mut drawn = [0; 16];
     match rt.fill_bytes(&mut drawn) {
         Ok(()) => Ok(drawn),
-        Err(_) => Err(Fault::ReadFailed),
+        Err(error) => {
+            tell_why(
+                alloc,
+                "the system's chance",
+                format!(in alloc; "{error}"),
+                errors,
+            );
+            Err(Fault::ReadFailed)
+        }
     }
 }
 
-// The secret that the sites share. Refused with `Script` where it is shorter than 32 bytes.
-fn secret_of(rt: &HostRuntime, name: &str) -> Result<Secret, Fault> {
-    Secret::new(bytes_of(rt, name)?).ok_or(Fault::Script)
+// The secret that the sites share. Refused with `Script` where it is shorter than 32 bytes, and that is told.
+fn secret_of<E: Buffered>(
+    rt: &HostRuntime,
+    name: &str,
+    errors: &mut Output<E>,
+) -> Result<Secret, Fault> {
+    match Secret::new(bytes_of(rt, name, errors)?) {
+        Some(secret) => Ok(secret),
+        None => Err(told_wrong(
+            rt.alloc(),
+            name,
+            "it has fewer than 32 bytes",
+            Fault::Script,
+            errors,
+        )),
+    }
 }
 
 // What a node is asked for, as its files tell.
@@ -66,22 +100,51 @@ struct Asked {
     secret: Secret,
 }
 
-// The files that are named. Refused with `Script` where one isn't what it should be.
-fn asked_of(rt: &HostRuntime, joining: &Joining) -> Result<Asked, Fault> {
-    let bytes = bytes_of(rt, joining.name.as_str())?;
-    let Ok(text) = str::from_utf8(bytes.as_slice()) else {
-        return Err(Fault::Script);
+// The sites that these bytes spell. Refused with `Script` where they spell none, and with `Memory`.
+fn sites_in(alloc: Global, bytes: &[u8]) -> Result<SitesFile, Fault> {
+    match str::from_utf8(bytes) {
+        Ok(text) => read_sites(alloc, text),
+        Err(_) => Err(Fault::Script),
+    }
+}
+
+// The files that are named. Refused with `Script` where one isn't what it should be, and that is told.
+fn asked_of<E: Buffered>(
+    rt: &HostRuntime,
+    joining: &Joining,
+    errors: &mut Output<E>,
+) -> Result<Asked, Fault> {
+    let name = joining.name.as_str();
+    let bytes = bytes_of(rt, name, errors)?;
+    let sites = match sites_in(rt.alloc(), bytes.as_slice()) {
+        Ok(sites) => sites,
+        Err(fault) => {
+            return Err(told_wrong(rt.alloc(), name, "it is no file of sites", fault, errors));
+        }
     };
     Ok(Asked {
-        sites: read_sites(rt.alloc(), text)?,
+        sites,
         digest: Sha256::digest(bytes.as_slice()),
-        secret: secret_of(rt, joining.secret.as_str())?,
+        secret: secret_of(rt, joining.secret.as_str(), errors)?,
     })
 }
 
-// The address that a text is. Refused with `Script` where it is none.
-fn address_of(text: &str) -> Result<SocketAddr, Fault> {
-    text.parse::<SocketAddr>().map_err(|_error| Fault::Script)
+// The address that a text is. Refused with `Script` where it is none, and that is told.
+fn address_of<E: Buffered>(
+    rt: &HostRuntime,
+    text: &str,
+    errors: &mut Output<E>,
+) -> Result<SocketAddr, Fault> {
+    match text.parse::<SocketAddr>() {
+        Ok(address) => Ok(address),
+        Err(_) => Err(told_wrong(
+            rt.alloc(),
+            text,
+            "it is no number and port",
+            Fault::Script,
+            errors,
+        )),
+    }
 }
 
 // The processes that were met before; of each data centre none, where no log tells of one.
@@ -101,11 +164,12 @@ fn met_before(
 }
 
 // The other sites, each with how many of its parcels were taken before.
-fn others(
+fn others<E: Buffered>(
     rt: &HostRuntime,
     sites: &SitesFile,
     here: u16,
     taken: &[u64],
+    errors: &mut Output<E>,
 ) -> Result<Vec<Other>, Fault> {
     let mut others = Vec::new(rt.alloc());
     let mut dc: u16 = 0;
@@ -113,7 +177,7 @@ fn others(
         if dc != here {
             others.push(Other {
                 dc,
-                address: address_of(site.peers.as_str())?,
+                address: address_of(rt, site.peers.as_str(), errors)?,
                 taken: taken.get(usize::from(dc)).copied().unwrap_or(0),
             })?;
         }
@@ -162,7 +226,12 @@ fn serve_all<T: Wait, E: Buffered>(
 
 // The process that this is, unless its log says which it was. A log is that of a store, whatever addresses its nodes have. Refused with
 // `UnknownHome` where the file has no such site.
-fn identity(rt: &HostRuntime, topology: &Topology, dc: u16) -> Result<Identity, Fault>
+fn identity<E: Buffered>(
+    rt: &HostRuntime,
+    topology: &Topology,
+    dc: u16,
+    errors: &mut Output<E>,
+) -> Result<Identity, Fault>
     ensures { IfOk result (λ i. i.dc < topology.now.dcs) }
 {
     if dc >= topology.dcs() {
@@ -171,7 +240,7 @@ fn identity(rt: &HostRuntime, topology: &Topology, dc: u16) -> Result<Identity, 
     let store = write_head(rt.alloc(), 0, topology)?;
     Ok(Identity {
         dc,
-        incarnation: incarnation(rt)?,
+        incarnation: incarnation(rt, errors)?,
         digest: Sha256::digest(store.as_slice()),
     })
 }
@@ -184,7 +253,7 @@ fn site_asked<E: Buffered>(
     topology: &Topology,
     errors: &mut Output<E>,
 ) -> Result<(DurableSite<Actor, FileDisk>, Others), Fault> {
-    let identity = identity(rt, topology, joining.dc)?;
+    let identity = identity(rt, topology, joining.dc, errors)?;
     let Some(folder) = &joining.data else {
         let site = Site::new(rt.alloc(), topology, identity.dc)?;
         let others = Others {
@@ -237,6 +306,17 @@ fn settle_in<T: Wait>(rt: &HostRuntime, threads: &T, home: &mut Home<'_>) -> Res
     note_met(&mut home.port, home.meeting.met())
 }
 
+// The same node, which bears those who send nothing for as long as is asked for, for 0 for ever.
+fn bearing<'a>(
+    node: Node<Meeting<'a, HostRuntime, Watch<'a>>, FileDisk>,
+    idle: u32,
+) -> Node<Meeting<'a, HostRuntime, Watch<'a>>, FileDisk> {
+    match idle {
+        0 => node,
+        seconds => node.with_idle(u64::from(seconds) * 1000),
+    }
+}
+
 // A node that has met the others. Refused where that is; then the site is closed.
 fn settled_in<'a, T: Wait>(
     rt: &'a HostRuntime,
@@ -285,23 +365,26 @@ fn own(
     })
 }
 
-// The sockets of other sites, which aren't called yet, by the process that this is and what its log tells of them.
-fn meeting<'a>(
+// The sockets of other sites, which aren't called yet, by the process that this is and what its log tells of them. Tells at which address
+// they can't be listened to.
+fn meeting<'a, E: Buffered>(
     rt: &'a HostRuntime,
     joining: &Joining,
     asked: Asked,
     whose: Identity,
     told: Others,
     registry: Registry,
+    errors: &mut Output<E>,
 ) -> Result<Meeting<'a, HostRuntime, Watch<'a>>, Fault> {
     let Others { heard, met } = told;
-    let others = others(rt, &asked.sites, joining.dc, &heard)?;
+    let others = others(rt, &asked.sites, joining.dc, &heard, errors)?;
     let Some(here) = asked.sites.sites.get(usize::from(joining.dc)) else {
         return Err(Fault::UnknownHome);
     };
-    let peers = address_of(here.peers.as_str())?;
+    let name = String::from_str(rt.alloc(), here.peers.as_str())?;
+    let peers = address_of(rt, name.as_str(), errors)?;
     let own = own(rt, joining, asked, whose, met)?;
-    Meeting::open(
+    match Meeting::open(
         rt,
         rt.alloc(),
         registry,
@@ -309,7 +392,23 @@ fn meeting<'a>(
         own,
         others.as_slice(),
         Watch::new(rt),
-    )
+    ) {
+        Ok(meeting) => Ok(meeting),
+        Err(fault) => Err(told_deaf(rt.alloc(), name.as_str(), "other sites", fault, errors)),
+    }
+}
+
+// The door at the address for clients, and its port. Tells where nobody can be listened to there.
+fn door_at<E: Buffered>(
+    rt: &HostRuntime,
+    address: &str,
+    errors: &mut Output<E>,
+) -> Result<(Sockets, u16), Fault> {
+    let at = address_of(rt, address, errors)?;
+    match Sockets::open_at(rt, rt.alloc(), at) {
+        Ok(door) => Ok((door, at.port())),
+        Err(fault) => Err(told_deaf(rt.alloc(), address, "clients", fault, errors)),
+    }
 }
 
 // The site that is asked for, which comes back from its log where it keeps one, and the sockets by which it is reached.
@@ -318,23 +417,24 @@ fn home_of<'a, E: Buffered>(
     joining: &Joining,
     errors: &mut Output<E>,
 ) -> Result<Home<'a>, Fault> {
-    let asked = asked_of(rt, joining)?;
+    let asked = asked_of(rt, joining, errors)?;
     let Some(here) = asked.sites.sites.get(usize::from(joining.dc)) else {
+        let (name, sites) = (joining.name.as_str(), asked.sites.sites.len());
+        tell_homeless(rt.alloc(), name, sites, joining.dc, errors);
         return Err(Fault::UnknownHome);
     };
     let began = Instant::now(rt).ok();
-    let clients = address_of(here.clients.as_str())?;
-    let mut door = Sockets::open_at(rt, rt.alloc(), clients)?;
+    let (door, clients) = door_at(rt, here.clients.as_str(), errors)?;
     let registry = door.registry()?;
     let (site, told) = site_asked(rt, joining, &asked.sites.topology, errors)?;
     let port = SiteSessions::new(rt.alloc(), site)?;
     let whose = port.site().identity();
-    match meeting(rt, joining, asked, whose, told, registry) {
+    match meeting(rt, joining, asked, whose, told, registry, errors) {
         Ok(meeting) => Ok(Home {
             door,
             port,
             meeting,
-            clients: clients.port(),
+            clients,
             began,
         }),
         Err(fault) => {
@@ -354,7 +454,7 @@ fn serve_site<T: Wait, W: Buffered, E: Buffered>(
 ) -> Result<Fault, Fault> {
     let home = home_of(rt, joining, errors)?;
     let (clients, began) = (home.clients, home.began);
-    let mut node = settled_in(rt, threads, home)?;
+    let mut node = bearing(settled_in(rt, threads, home)?, joining.idle);
     let fault = match tell_port(rt.alloc(), clients, output) {
         Ok(()) => serve_all(rt, threads, began, &mut node, errors),
         Err(fault) => fault,
@@ -365,7 +465,7 @@ fn serve_site<T: Wait, W: Buffered, E: Buffered>(
 
 /// Serves the sessions of one data centre, once each other site was met, ever, and exchanges writes with these, until it is stopped. Where it
 /// keeps a log, it comes back from that first, and nothing leaves it before what it tells of is on the disk. Tells of each connection
-/// that ends with a fault, and of other sites. Gives the exit status, 1, after the fault that ended it was told: `Script` where the file
+/// that ends with a fault, and of other sites, and why it can't begin. Gives the exit status, 1, after the fault that ended it was told: `Script` where the file
 /// of sites or the secret isn't one, `UnknownHome` where that has no such site, `ReadFailed` where a file can't be read, it can't listen
 /// or wait, or its log leads to no site, `WriteFailed` where it can't say that it listens, or its disk fails, `ClockSpent` where its log
 /// tells so, `StrangerEnd` where an actor sent what isn't its own, `Memory`.
@@ -381,5 +481,6 @@ pub(crate) fn join<T: Wait, W: Buffered, E: Buffered>(
     let fault = match serve_site(rt, threads, joining, output, errors) {
         Ok(fault) | Err(fault) => fault,
     };
+    tell_own_fault(fault, errors);
     tell(errors, fault, None)
 }
