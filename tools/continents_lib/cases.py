@@ -8,10 +8,14 @@ name of its writer, `SESSION.NUMBER`, counted for each session from 1; `-` is a 
     2@1 reads x=1.1 y=- at 7
     1@0 moves 1 at 3
 
-Slices are judged beside that: what a reply shows of a row, or that it is none of what was asked."""
+Slices are judged beside that: what a reply shows of a row, or that it is none of what was asked; and runs of which each fault was asked
+for once: whether it was there, met what it was for, and kept nobody else from answering."""
+import itertools
 import re
 
 from .asking import Reading
+from .faults import LASTS, OF_NODES, Fault, Window, plan_each
+from .figures import missing
 from .judge import KINDS, judge
 from .record import DONE, Operation, stamp_of
 
@@ -108,14 +112,29 @@ SLICES = [
     ("downwards, fewer", {"reversed": True, "start": b"b", "count": 2}, "r: d", "d c=- b=-"),
     ("downwards, in another order", {"reversed": True, "count": 2}, "r: c d", None),
 ]
+# Of two nodes, where a kill and a cut were asked for: the faults that were, with the nodes, when, and how many connections they met; what
+# clients did meanwhile; and how many things aren't as they have to be.
+MEANWHILE = "12-15 1@1 reads x=- at 1; 32-33 1@1 reads x=- at 1; 32-33 2@0 reads x=- at 1"
+FAULTY = [
+    ("each once", "kill 0 10-20 0; cut 01 30-40 2", MEANWHILE, 0),
+    ("in the other order", "cut 01 30-40 2; kill 0 10-20 0", MEANWHILE, 0),
+    ("no cut", "kill 0 10-20 0", MEANWHILE, 1),
+    ("two kills", "kill 0 10-20 0; kill 0 11-19 0; cut 01 30-40 2", MEANWHILE, 1),
+    ("something else", "kill 0 10-20 0; cut 01 30-40 2; pause 0 11-19 0", MEANWHILE, 1),
+    ("a cut of nothing", "kill 0 10-20 0; cut 01 30-40 0", MEANWHILE, 1),
+    ("of the other node nobody was answered", "kill 1 10-20 0; cut 01 30-40 2", MEANWHILE, 1),
+    ("nobody was answered while it was cut", "kill 0 10-20 0; cut 01 50-60 2", MEANWHILE, 2),
+    ("nor before it was over", "kill 0 10-14 0; cut 01 30-40 2", MEANWHILE, 1),
+    ("refused is not answered", "kill 0 10-20 0", "12-15 1@1 writes x refused", 2),
+]
 
 
-def _columns(words, missing):
+def _columns(words, unnamed):
     """Columns and values, up to a word that is none of them."""
     found = {}
     while words and words[0] not in ("at", "refused", "unknown", "malformed"):
         column, _, value = words.pop(0).partition("=")
-        found[column] = None if value == "-" else value or missing
+        found[column] = None if value == "-" else value or unnamed
     return found
 
 
@@ -165,6 +184,27 @@ def _wrong_slices():
             yield f"a slice, {name}: {found}, and not {wanted}"
 
 
+def _window(line):
+    """A fault that was; of a link, both ways."""
+    kind, nodes, times, connections = line.split()
+    begin, end = map(int, times.split("-"))
+    one, *other = map(int, nodes)
+    target = ((one, *other), (*other, one)) if other else (one,)
+    return Window(Fault(kind, target, begin, end), begin, end, int(connections))
+
+
+def _wrong_faults():
+    for name, faults, text, count in FAULTY:
+        found = list(missing(_history(text), ["kill", "cut"], [_window(line) for line in faults.split("; ")], 2))
+        if len(found) != count:
+            yield f"faults, {name}: {found}, and not {count}"
+    for seed, (count, kinds) in itertools.product(range(100), ((1, OF_NODES), (2, ("kill", "cut")), (3, LASTS))):
+        faults = plan_each(seed, 30.0, count, list(kinds))
+        ends = [time for fault in faults for time in (fault.begin, fault.end)]
+        if sorted(fault.kind for fault in faults) != sorted(kinds) or ends != sorted(ends) or ends[-1] > 30:
+            yield f"seed {seed} plans {faults}"
+
+
 def wrong_cases():
     """Each case that the judge judges otherwise than it stands here."""
     for name, kinds, text, tables in CASES:
@@ -172,6 +212,6 @@ def wrong_cases():
         if set(findings.counts) != set(kinds.split()):
             yield f"{name}: {dict(findings.counts)} was found, and not {kinds or 'nothing'}: {findings.told}"
     yield from _wrong_slices()
-    missing = set(KINDS) - {kind for _, kinds, _, _ in CASES for kind in kinds.split()}
-    if missing:
-        yield f"no case has {sorted(missing)}"
+    yield from _wrong_faults()
+    if left := set(KINDS) - {kind for _, kinds, _, _ in CASES for kind in kinds.split()}:
+        yield f"no case has {sorted(left)}"

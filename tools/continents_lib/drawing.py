@@ -1,5 +1,6 @@
 """A run drawn as SVG: for each node operations a second and latency over time, with the faults as bands."""
 import math
+from collections import defaultdict
 
 from .faults import OF_NODES
 from .figures import part_of
@@ -8,8 +9,8 @@ WIDTH, LEFT, RIGHT, TOP = 1000, 70, 20, 56
 RATES, TIMES, GAP, LABELS = 60, 110, 34, 3
 COLOURS = {"kill": "#d33", "pause": "#e90", "cut": "#36c", "stall": "#7a4bb5", "full": "#963"}
 LINES = {("read", 0.5): "#2a7", ("read", 0.99): "#2a7", ("write", 0.5): "#c26", ("write", 0.99): "#c26"}
-# How many points a line has at most.
-POINTS = 450
+# How many points a line has at most, and how many faults of a node have labels.
+POINTS, LABELLED = 180, 40
 # Milliseconds at the lower and the upper end of a panel of latencies.
 LEAST, MOST = 0.1, 100_000
 
@@ -45,22 +46,31 @@ class Drawing:
 
     def line(self, points, colour, more=""):
         if points:
-            path = " ".join(f"{x:.1f},{y:.1f}" for x, y in points)
+            path = " ".join(f"{x:.0f},{y:.0f}" for x, y in points)
             self.parts.append(f'<polyline points="{path}" fill="none" stroke="{colour}" {more}/>')
 
     def bands(self, node, top):
-        """The faults that concern a node. Their labels stand on the first of three lines that is free there, or nowhere."""
+        """The faults that concern a node, those of a kind as one shape."""
         concerned = sorted((window for window in self.windows if node in window.nodes()), key=lambda window: window.begin)
-        free = [0.0] * LABELS
+        shapes = defaultdict(list)
         for window in concerned:
             begin, end = (self.x(min(time / 1e6, self.seconds)) for time in (window.begin, window.end))
-            colour = COLOURS[window.fault.kind]
-            strong = 0.3 if window.fault.kind in OF_NODES else 0.15
-            shape = f'x="{begin:.1f}" y="{top}" width="{max(end - begin, 1):.1f}" height="{RATES + TIMES}"'
-            self.parts.append(f'<rect {shape} fill="{colour}" opacity="{strong}"/>')
+            width = max(end - begin, 1)
+            shapes[window.fault.kind].append(f"M{begin:.1f} {top}h{width:.1f}v{RATES + TIMES}h-{width:.1f}z")
+        for kind, its in shapes.items():
+            strong = 0.3 if kind in OF_NODES else 0.15
+            self.parts.append(f'<path d="{"".join(its)}" fill="{COLOURS[kind]}" opacity="{strong}"/>')
+        if len(concerned) <= LABELLED:
+            self.labels(concerned, top)
+
+    def labels(self, concerned, top):
+        """Labels of faults. Each stands on the first of three lines that is free there, or nowhere."""
+        free = [0.0] * LABELS
+        for window in concerned:
+            begin = self.x(min(window.begin / 1e6, self.seconds))
             for line in range(LABELS):
                 if free[line] <= begin:
-                    self.text(begin, top + 9 + 9 * line, window.fault.label, f'font-size="8" fill="{colour}"')
+                    self.text(begin, top + 9 + 9 * line, window.fault.label, f'font-size="8" fill="{COLOURS[window.fault.kind]}"')
                     free[line] = begin + 5 * len(window.fault.label)
                     break
 
@@ -93,13 +103,20 @@ class Drawing:
     def axis(self, top):
         step = next(step for step in (1, 2, 5, 10, 30, 60, 300, 600, 1800, 3600, 36_000) if self.seconds / step <= 20 or step == 36_000)
         for second in range(0, self.seconds + 1, step):
-            self.text(self.x(second), top, f"{second} s", 'text-anchor="middle"')
+            told = f"{second} s" if step < 60 else f"{second // 60} min"
+            self.text(self.x(second), top, told, 'text-anchor="middle"')
+
+    def legend(self):
+        self.text(LEFT, 34, "green reads, red writes: lines 50 %, dots 99 %; faults:", 'fill="#555"')
+        for place, (kind, colour) in enumerate(COLOURS.items()):
+            left = LEFT + 290 + 60 * place
+            self.parts.append(f'<rect x="{left}" y="25" width="10" height="10" fill="{colour}" opacity="0.5"/>')
+            self.text(left + 14, 34, kind, 'fill="#555"')
 
     def svg(self):
         height = TOP + self.figures.count * (RATES + TIMES + GAP) + 20
         self.text(LEFT, 18, self.title, 'font-size="14"')
-        legend = "green reads, red writes: lines 50 %, dots 99 %; bands: " + ", ".join(COLOURS)
-        self.text(LEFT, 34, legend, 'fill="#555"')
+        self.legend()
         for node in range(self.figures.count):
             top = TOP + node * (RATES + TIMES + GAP)
             self.text(LEFT, top - 6, f"node {node}", 'font-weight="bold"')

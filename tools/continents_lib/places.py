@@ -5,6 +5,7 @@ addresses of the others there is a relay. Networks are the system's network name
 in a user namespace, where the system has these."""
 import contextlib
 import ctypes
+import errno
 import fcntl
 import os
 import socket
@@ -79,9 +80,27 @@ def take_away(folder):
     _call(LIBC.umount2(os.fsencode(folder), DETACH))
 
 
+def _try_become_user():
+    """An OSError where this process couldn't become root: it would stay half of it, so a child tries."""
+    child = os.fork()
+    if child == 0:
+        number = errno.EPERM
+        try:
+            _become_user()
+            number = 0
+        except OSError as error:
+            number = error.errno
+        finally:
+            os._exit(number)
+    _, status = os.waitpid(child, 0)
+    if number := os.waitstatus_to_exitcode(status):
+        raise OSError(number, os.strerror(number))
+
+
 def become():
     """Who isn't root becomes so in a namespace of users, if there are such. No other thread may run."""
     if os.geteuid() != 0:
+        _try_become_user()
         _become_user()
 
 

@@ -4,7 +4,8 @@
 
 has one for each ordered pair of nodes. It listens in the network of the one that calls, at the address of the other, and calls that in its
 own network. Lines on standard input change it: `cut I J` closes the connections that I made to J, and no new one comes about until
-`heal I J`; from `stall I J` on nothing passes on these, either way, and nothing is lost, until `flow I J`. It ends with its input."""
+`heal I J`; from `stall I J` on nothing passes on these, either way, and nothing is lost, until `flow I J`. It answers each with a line
+that tells how many connections there were. It ends with its input."""
 import asyncio
 import collections
 import json
@@ -63,7 +64,7 @@ class Way:
         self.is_cut = False
         self.flowing = asyncio.Event()
         self.flowing.set()
-        self.writers = set()
+        self.writers, self.made = set(), 0
 
     async def accepted(self, reader, writer):
         """Has a connection go on to the other node."""
@@ -77,15 +78,19 @@ class Way:
             there, back = await self.call()
             ends.append(back)
             self.writers.add(back)
+            self.made += 1
             await asyncio.gather(Lane(self, reader, back).carry(), Lane(self, there, writer).carry())
         except OSError:
             pass
         finally:
+            self.made -= len(ends) - 1
             for end in ends:
                 self.writers.discard(end)
                 end.transport.abort()
 
     def change(self, what):
+        """Gives how many connections there were."""
+        made = self.made
         if what == "cut":
             self.is_cut = True
             for writer in list(self.writers):
@@ -96,6 +101,7 @@ class Way:
             self.flowing.clear()
         elif what == "flow":
             self.flowing.set()
+        return made
 
 
 def listener(network, home, address):
@@ -135,7 +141,7 @@ async def serve(networks, home, peers, seconds):
     print("ready", flush=True)
     while line := await commands.readline():
         what, one, other = line.decode().split()
-        ways[int(one), int(other)].change(what)
+        print(ways[int(one), int(other)].change(what), flush=True)
     os._exit(0)
 
 
